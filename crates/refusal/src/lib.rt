@@ -129,7 +129,8 @@ impl Refusal {
             Refusal::Opening => "terms, places or script are out of range",
             Refusal::Lot => "a lot, class or face is out of range, or the lot is in another state",
             Refusal::Day => "the day is not later, or the last day has not ended",
-            Refusal::Row => "the row, exposure or a quote is absent, out of range or of another day",
+            Refusal::Row =>
+                "the row, exposure or a quote is absent, out of range or of another day",
             Refusal::State => "the state of the day does not allow it",
             Refusal::BelowAmount => "what was delivered is below the amount",
             Refusal::WeighingDiffers => "weighing the row does not give the finding",
