@@ -1,0 +1,3 @@
+pub mod Amounts
+pub mod Lots
+pub mod Value

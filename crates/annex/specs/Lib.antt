@@ -1,0 +1,4 @@
+pub mod Every
+pub mod Row
+pub mod Schedule
+pub mod Terms

@@ -1,0 +1,46 @@
+//! `margin`: reads a scenario and tells what is to be called or offered back on each of its days.
+mod report;
+mod text;
+
+use report::valuation;
+use std::env;
+use std::error::AnyError;
+use std::fs;
+use std::io;
+use text::HELP;
+use text::unreadable;
+
+// The text of the file that is named, or else of standard input.
+fn input(rt: &LibcRuntime, path: Option<String>) -> Result<String, AnyError> {
+    match path {
+        Some(path) => Ok(fs::read_to_string(rt, path.as_str())?),
+        None => Ok(io::read_to_string(rt.alloc(), rt.stdin())?),
+    }
+}
+
+fn value(rt: &LibcRuntime, path: Option<String>) -> Result<(), AnyError> {
+    let text = input(rt, path)?;
+    match scenario::read(rt.alloc(), text.as_str()) {
+        Ok(scenario) => Ok(valuation(rt, &scenario)?),
+        Err(error) => Err(unreadable(rt.alloc(), error)?.into()),
+    }
+}
+
+fn run(rt: &LibcRuntime) -> Result<(), AnyError> {
+    let mut args = env::args(rt)?;
+    let _program = args.next();
+    match args.next() {
+        Some(word) => {
+            if word.as_str() == "--help" {
+                rt.print(HELP)?;
+                return Ok(());
+            }
+            value(rt, Some(word))
+        }
+        None => value(rt, None),
+    }
+}
+
+fn main(rt: LibcRuntime) -> Result<(), AnyError> {
+    rt.report(run(&rt))
+}

@@ -1,0 +1,222 @@
+//! A whole scenario: every line is read before anything is done.
+use crate::directive::Directive;
+use crate::directive::Source;
+use amounts::SecuredLot;
+use annex::Row;
+use annex::schedule::standard_schedule;
+use annex::Terms;
+use std::alloc::AllocError;
+use std::alloc::Global;
+use std::alloc::Refused;
+use std::str::SplitWhitespace;
+
+/// A panel: its day, and which of the scenario's quotes are its own.
+#[derive(Clone, Copy)]
+pub struct PanelLine {
+    pub day: u32,
+    pub from: usize,
+    pub to: usize,
+}
+
+/// A day to be valued, and where its row is read from.
+#[derive(Clone, Copy)]
+pub struct ValueLine {
+    pub day: u32,
+    pub source: Source,
+}
+
+/// What a scenario says, in the order of its lines.
+#[derive(Drop)]
+pub struct Scenario {
+    pub terms: Terms,
+    pub lots: Vec<SecuredLot>,
+    pub rows: Vec<Row>,
+    pub quotes: Vec<i64>,
+    pub panels: Vec<PanelLine>,
+    pub values: Vec<ValueLine>,
+}
+
+/// Why a text is no scenario.
+#[derive(Clone, Copy)]
+pub enum Unreadable {
+    /// The line of this number, from 1, is not what was expected.
+    Line { number: usize, expected: &'static str },
+    /// The text ends without a line that it has to have.
+    Missing { expected: &'static str },
+    /// There is not enough memory.
+    Memory,
+}
+
+impl From<AllocError> for Unreadable as UnreadableFromAlloc {
+    fn from(_: AllocError) -> Unreadable {
+        Unreadable::Memory
+    }
+}
+
+impl<T: Drop> From<Refused<T>> for Unreadable as UnreadableFromRefused {
+    fn from(_: Refused<T>) -> Unreadable {
+        Unreadable::Memory
+    }
+}
+
+// What has been read so far.
+#[derive(Drop)]
+struct Draft {
+    terms: Option<Terms>,
+    percentages: Option<[u32; 8]>,
+    lots: Vec<SecuredLot>,
+    rows: Vec<Row>,
+    quotes: Vec<i64>,
+    panels: Vec<PanelLine>,
+    values: Vec<ValueLine>,
+}
+
+impl Draft {
+    fn new(heap: Global) -> Draft {
+        Draft {
+            terms: None,
+            percentages: None,
+            lots: Vec::new(heap),
+            rows: Vec::new(heap),
+            quotes: Vec::new(heap),
+            panels: Vec::new(heap),
+            values: Vec::new(heap),
+        }
+    }
+
+    // The quotes of a panel are the words that are left of its line.
+    fn add_panel(
+        &mut self,
+        day: u32,
+        words: &mut SplitWhitespace<'_>,
+        number: usize,
+    ) -> Result<(), Unreadable> {
+        let from = self.quotes.len();
+        for word in words {
+            match word.parse::<i64>() {
+                Ok(quote) => self.quotes.push(quote)?,
+                Err(_) => {
+                    return Err(Unreadable::Line {
+                        number,
+                        expected: "'panel DAY quotes' and the quotes, each a whole number",
+                    });
+                }
+            }
+        }
+        let to = self.quotes.len();
+        self.panels.push(PanelLine { day, from, to })?;
+        Ok(())
+    }
+
+    fn set_terms(&mut self, terms: Terms, number: usize) -> Result<(), Unreadable> {
+        if self.terms.is_some() {
+            return Err(Unreadable::Line {
+                number,
+                expected: "one 'terms' line",
+            });
+        }
+        self.terms = Some(terms);
+        Ok(())
+    }
+
+    fn set_percentages(&mut self, percentages: [u32; 8], number: usize) -> Result<(), Unreadable> {
+        if self.percentages.is_some() {
+            return Err(Unreadable::Line {
+                number,
+                expected: "one 'schedule' line",
+            });
+        }
+        self.percentages = Some(percentages);
+        Ok(())
+    }
+
+    fn add(&mut self, line: &str, number: usize) -> Result<(), Unreadable> {
+        if line.starts_with('#') {
+            return Ok(());
+        }
+        let mut words = line.split_whitespace();
+        let directive = match Directive::parse(&mut words) {
+            Ok(directive) => directive,
+            Err(expected) => return Err(Unreadable::Line { number, expected }),
+        };
+        match directive {
+            Directive::Blank => Ok(()),
+            Directive::Terms {
+                threshold,
+                pledgor_minimum,
+                secured_minimum,
+                pledgor_independent,
+                secured_independent,
+            } => {
+                let terms = Terms {
+                    threshold,
+                    pledgor_minimum,
+                    secured_minimum,
+                    pledgor_independent,
+                    secured_independent,
+                    percentages: [0; 8],
+                };
+                self.set_terms(terms, number)
+            }
+            Directive::StandardSchedule => self.set_percentages(standard_schedule(), number),
+            Directive::Schedule { percentages } => self.set_percentages(percentages, number),
+            Directive::Lot { lot } => {
+                self.lots.push(lot)?;
+                Ok(())
+            }
+            Directive::Row { row } => {
+                self.rows.push(row)?;
+                Ok(())
+            }
+            Directive::Panel { day } => self.add_panel(day, &mut words, number),
+            Directive::Value { day, source } => {
+                self.values.push(ValueLine { day, source })?;
+                Ok(())
+            }
+        }
+    }
+
+    fn finish(self) -> Result<Scenario, Unreadable> {
+        let Draft {
+            terms,
+            percentages,
+            lots,
+            rows,
+            quotes,
+            panels,
+            values,
+        } = self;
+        let Some(terms) = terms else {
+            return Err(Unreadable::Missing {
+                expected: "a 'terms' line",
+            });
+        };
+        let Some(percentages) = percentages else {
+            return Err(Unreadable::Missing {
+                expected: "a 'schedule' line",
+            });
+        };
+        Ok(Scenario {
+            terms: Terms {
+                percentages,
+                ..terms
+            },
+            lots,
+            rows,
+            quotes,
+            panels,
+            values,
+        })
+    }
+}
+
+/// The scenario that a text is, or the first line that is not what was expected.
+pub fn read(heap: Global, text: &str) -> Result<Scenario, Unreadable> {
+    let mut draft = Draft::new(heap);
+    let mut number = 0usize;
+    for line in text.lines() {
+        number = number.saturating_add(1);
+        draft.add(line, number)?;
+    }
+    draft.finish()
+}
