@@ -8,6 +8,7 @@ use std::error::AnyError;
 use std::fs;
 use std::io;
 use text::HELP;
+use text::found;
 use text::unreadable;
 
 // The text of the file that is named, or else of standard input.
@@ -22,7 +23,12 @@ fn value(rt: &LibcRuntime, path: Option<String>) -> Result<(), AnyError> {
     let text = input(rt, path)?;
     match scenario::read(rt.alloc(), text.as_str()) {
         Ok(scenario) => Ok(valuation(rt, &scenario)?),
-        Err(error) => Err(unreadable(rt.alloc(), error)?.into()),
+        Err(error) => {
+            if let Some(line) = found(error, text.as_str()) {
+                eprintln!(rt, "margin: found '{line}'")?;
+            }
+            Err(unreadable(rt.alloc(), error)?.into())
+        }
     }
 }
 
@@ -42,5 +48,11 @@ fn run(rt: &LibcRuntime) -> Result<(), AnyError> {
 }
 
 fn main(rt: LibcRuntime) -> Result<(), AnyError> {
-    rt.report(run(&rt))
+    match run(&rt) {
+        Ok(()) => Ok(()),
+        Err(error) => {
+            eprintln!(rt, "margin: {error}")?;
+            Err(error)
+        }
+    }
 }

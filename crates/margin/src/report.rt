@@ -22,7 +22,14 @@ fn refused(rt: &LibcRuntime, day: u32, refusal: Refusal) -> io::Result<()> {
     println!(rt, "day {day} refused {number}: {words}")
 }
 
-fn priced_lot(rt: &LibcRuntime, day: u32, number: usize, entry: &SecuredLot, annex: &Annex, row: &Row) -> io::Result<()> {
+fn priced_lot(
+    rt: &LibcRuntime,
+    day: u32,
+    number: usize,
+    entry: &SecuredLot,
+    annex: &Annex,
+    row: &Row,
+) -> io::Result<()> {
     let (state, lot) = match *entry {
         SecuredLot::Absent => return println!(rt, "day {day} lot {number} absent"),
         SecuredLot::Held(lot) => ("held", lot),
@@ -32,10 +39,16 @@ fn priced_lot(rt: &LibcRuntime, day: u32, number: usize, entry: &SecuredLot, ann
     let class = lot.class;
     let face = lot.face;
     match amounts::value(annex, row, &lot) {
-        Ok(value) => println!(rt, "day {day} lot {number} class {class} face {face} {state} value {value}"),
+        Ok(value) => println!(
+            rt,
+            "day {day} lot {number} class {class} face {face} {state} value {value}"
+        ),
         Err(refusal) => {
             let refused = refusal.number();
-            println!(rt, "day {day} lot {number} class {class} face {face} {state} refused {refused}")
+            println!(
+                rt,
+                "day {day} lot {number} class {class} face {face} {state} refused {refused}"
+            )
         }
     }
 }
@@ -89,7 +102,11 @@ fn panel_of(panels: &[PanelLine], day: u32) -> Option<PanelLine> {
 // The row of a day by its panel of quotes; a day without a panel has an empty one.
 fn panel_row(scenario: &Scenario, day: u32) -> Result<Row, Refusal> {
     let quotes = match panel_of(scenario.panels.as_slice(), day) {
-        Some(line) => scenario.quotes.as_slice().get(line.from..line.to).unwrap_or(&[]),
+        Some(line) => scenario
+            .quotes
+            .as_slice()
+            .get(line.from..line.to)
+            .unwrap_or(&[]),
         None => &[],
     };
     let panel = Panel::open(day, quotes)?;
@@ -115,7 +132,7 @@ fn value(rt: &LibcRuntime, scenario: &Scenario, annex: &Annex, line: &ValueLine)
 }
 
 /// The amounts of each day that the scenario wants valued, or the refusal of its terms.
-pub fn valuation(rt: &LibcRuntime, scenario: &Scenario) -> io::Result<()> {
+pub(crate) fn valuation(rt: &LibcRuntime, scenario: &Scenario) -> io::Result<()> {
     let annex = match Annex::open(scenario.terms) {
         Ok(annex) => annex,
         Err(refusal) => {

@@ -24,12 +24,23 @@ pub enum Directive {
         secured_independent: u64,
     },
     StandardSchedule,
-    Schedule { percentages: [u32; 8] },
-    Lot { lot: SecuredLot },
-    Row { row: Row },
+    Schedule {
+        percentages: [u32; 8],
+    },
+    Lot {
+        lot: SecuredLot,
+    },
+    Row {
+        row: Row,
+    },
     /// The quotes follow it in the line.
-    Panel { day: u32 },
-    Value { day: u32, source: Source },
+    Panel {
+        day: u32,
+    },
+    Value {
+        day: u32,
+        source: Source,
+    },
 }
 
 fn amount(words: &mut SplitWhitespace<'_>) -> Option<u64> {
@@ -161,13 +172,21 @@ fn value(words: &mut SplitWhitespace<'_>) -> Option<Directive> {
 
 impl Directive {
     /// What the line says, or what was expected in its place. The quotes of a panel are left in `words`.
-    pub fn parse(words: &mut SplitWhitespace<'_>) -> Result<Directive, &'static str> {
+    pub(crate) fn parse(words: &mut SplitWhitespace<'_>) -> Result<Directive, &'static str> {
         match words.next() {
             None => Ok(Directive::Blank),
-            Some("terms") => terms(words).ok_or("'terms threshold AMOUNT minimum AMOUNT AMOUNT independent AMOUNT AMOUNT'"),
-            Some("schedule") => schedule(words).ok_or("'schedule standard' or 'schedule' and eight percentages"),
-            Some("lot") => lot(words).ok_or("'lot class CLASS face AMOUNT' and 'held', 'owed-back' or 'decline-owed'"),
-            Some("row") => row(words).ok_or("'row DAY exposure NUMBER prices' and eight prices, '-' for none"),
+            Some("terms") => terms(words).ok_or(
+                "'terms threshold AMOUNT minimum AMOUNT AMOUNT independent AMOUNT AMOUNT'",
+            ),
+            Some("schedule") => schedule(words).ok_or(
+                "'schedule standard' or 'schedule' and eight percentages",
+            ),
+            Some("lot") => lot(words).ok_or(
+                "'lot class CLASS face AMOUNT' and 'held', 'owed-back' or 'decline-owed'",
+            ),
+            Some("row") => row(words).ok_or(
+                "'row DAY exposure NUMBER prices' and eight prices, '-' for none",
+            ),
             Some("panel") => panel(words).ok_or("'panel DAY quotes' and the quotes"),
             Some("value") => value(words).ok_or("'value DAY sheet' or 'value DAY panel'"),
             Some(_) => Err("terms, schedule, lot, row, panel or value"),

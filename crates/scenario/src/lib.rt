@@ -5,8 +5,8 @@ pub mod reading;
 
 pub use directive::Directive;
 pub use directive::Source;
-pub use reading::read;
 pub use reading::PanelLine;
 pub use reading::Scenario;
 pub use reading::Unreadable;
 pub use reading::ValueLine;
+pub use reading::read;

@@ -3,8 +3,8 @@ use crate::directive::Directive;
 use crate::directive::Source;
 use amounts::SecuredLot;
 use annex::Row;
-use annex::schedule::standard_schedule;
 use annex::Terms;
+use annex::schedule::standard_schedule;
 use std::alloc::AllocError;
 use std::alloc::Global;
 use std::alloc::Refused;
@@ -40,9 +40,14 @@ pub struct Scenario {
 #[derive(Clone, Copy)]
 pub enum Unreadable {
     /// The line of this number, from 1, is not what was expected.
-    Line { number: usize, expected: &'static str },
+    Line {
+        number: usize,
+        expected: &'static str,
+    },
     /// The text ends without a line that it has to have.
-    Missing { expected: &'static str },
+    Missing {
+        expected: &'static str,
+    },
     /// There is not enough memory.
     Memory,
 }
@@ -219,4 +224,65 @@ pub fn read(heap: Global, text: &str) -> Result<Scenario, Unreadable> {
         draft.add(line, number)?;
     }
     draft.finish()
+}
+
+#[cfg(test)]
+mod tests {
+    use super::*;
+    use std::test::*;
+
+    const TERMS: &str = "terms threshold 5 minimum 1 2 independent 3 4\nschedule standard\n";
+
+    #[test]
+    fn a_scenario_is_read_whole(rt: LibcRuntime) -> Result<(), Fail> {
+        let text = format!(
+            rt.alloc(),
+            "{TERMS}# lots\nlot class 7 face 9 held\n\npanel 3 quotes -1 -2\npanel 4 quotes 8\nvalue 3 panel\n"
+        )?;
+        let Ok(scenario) = read(rt.alloc(), text.as_str()) else {
+            return Err(Fail::new("unreadable"));
+        };
+        check_eq(scenario.terms.secured_independent, 4)?;
+        check_eq(
+            scenario.terms.percentages,
+            [10_000, 9_950, 9_850, 9_700, 9_500, 9_250, 8_950, 8_600],
+        )?;
+        check_eq(scenario.lots.len(), 1)?;
+        check_eq(scenario.quotes.as_slice(), &[-1, -2, 8])?;
+        check_eq(scenario.panels.len(), 2)?;
+        check_eq(scenario.values.len(), 1)
+    }
+
+    fn refused_at(rt: &LibcRuntime, line: &str) -> Result<usize, Fail> {
+        let text = format!(rt.alloc(), "{TERMS}{line}\n")?;
+        match read(rt.alloc(), text.as_str()) {
+            Err(Unreadable::Line { number, .. }) => Ok(number),
+            Err(Unreadable::Missing { .. }) => Ok(0),
+            Err(Unreadable::Memory) => Ok(0),
+            Ok(_) => Ok(0),
+        }
+    }
+
+    #[test]
+    fn a_malformed_line_is_named(rt: LibcRuntime) -> Result<(), Fail> {
+        check_eq(refused_at(&rt, "row 7 exposure 5 prices 1 2 3 4 5 6 7")?, 3)?;
+        check_eq(
+            refused_at(&rt, "row 7 exposure 5 prices 1 2 3 4 5 6 7 8 9")?,
+            3,
+        )?;
+        check_eq(refused_at(&rt, "lot class 1 face 2 lost")?, 3)?;
+        check_eq(refused_at(&rt, "lot class 256 face 2 held")?, 3)?;
+        check_eq(refused_at(&rt, "panel 3 quotes 1 x")?, 3)?;
+        check_eq(refused_at(&rt, "value 3 market")?, 3)?;
+        check_eq(refused_at(&rt, "schedule standard")?, 3)?;
+        check_eq(refused_at(&rt, "notice 3")?, 3)
+    }
+
+    #[test]
+    fn terms_have_to_be_there(rt: LibcRuntime) -> Result<(), Fail> {
+        match read(rt.alloc(), "schedule standard\n") {
+            Err(Unreadable::Missing { .. }) => Ok(()),
+            _ => Err(Fail::new("read")),
+        }
+    }
 }
