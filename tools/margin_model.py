@@ -3,6 +3,7 @@
 
 With a file it prints that scenario's answer; without one it writes the stdin and stdout of crates/margin."""
 import pathlib
+import struct
 import sys
 
 from annex_model import Refused, Row, Terms, panel_row, sheet_row, standard_percentage, total, value, weigh
@@ -41,6 +42,16 @@ def read(text):
     return Terms(terms[0], terms[1:3], terms[3:5], percentages), lots, rows, panels, values
 
 
+def first_frame(day, exposure, notice):
+    """The frame of a finding as message 1 of an agreement, acknowledging nothing: kind, day, exposure,
+    amount; then number, acknowledgement, tag, version and the frame's length."""
+    kind, *amount = notice.split()
+    body = bytes([{"quiet": 1, "call": 2, "offer": 3}[kind]]) + struct.pack(">Iq", day, exposure)
+    for a in amount:
+        body += struct.pack(">Q", int(a))
+    return (body + struct.pack(">IIBBH", 1, 1, 0x44, 1, len(body) + 12)).hex().upper()
+
+
 def day_lines(terms, lots, rows, panels, day, source):
     yield f"source {source}"
     if source == "sheet":
@@ -58,6 +69,7 @@ def day_lines(terms, lots, rows, panels, day, source):
     yield f"delivery-amount {delivery}"
     yield f"return-amount {excess}"
     yield f"finding {notice}"
+    yield f"frame {first_frame(day, exposure, notice)}"
 
 
 def answer(text):

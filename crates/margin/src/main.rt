@@ -1,7 +1,10 @@
 //! `margin`: reads a scenario and tells what is to be called or offered back on each of its days.
+mod frames;
 mod report;
 mod text;
 
+use frames::bytes_of;
+use frames::explain;
 use report::valuation;
 use std::env;
 use std::error::AnyError;
@@ -32,18 +35,27 @@ fn value(rt: &LibcRuntime, path: Option<String>) -> Result<(), AnyError> {
     }
 }
 
+// What the frame of these hexadecimal digits says.
+fn frame(rt: &LibcRuntime, digits: Option<String>) -> Result<(), AnyError> {
+    let Some(digits) = digits else {
+        return Err("expected 'margin frame' and hexadecimal digits".into());
+    };
+    match bytes_of(rt.alloc(), digits.as_str())? {
+        Some(bytes) => Ok(explain(rt, bytes.as_slice())?),
+        None => Err("expected an even number of hexadecimal digits".into()),
+    }
+}
+
 fn run(rt: &LibcRuntime) -> Result<(), AnyError> {
     let mut args = env::args(rt)?;
     let _program = args.next();
-    match args.next() {
-        Some(word) => {
-            if word.as_str() == "--help" {
-                rt.print(HELP)?;
-                return Ok(());
-            }
-            value(rt, Some(word))
-        }
-        None => value(rt, None),
+    let Some(word) = args.next() else {
+        return value(rt, None);
+    };
+    match word.as_str() {
+        "--help" => Ok(rt.print(HELP)?),
+        "frame" => frame(rt, args.next()),
+        _ => value(rt, Some(word)),
     }
 }
 

@@ -5,6 +5,8 @@ use amounts::SecuredLot;
 use amounts::SecuredLotHolding;
 use annex::Annex;
 use annex::Row;
+use crate::frames::first_frame;
+use message::Message;
 use refusal::Refusal;
 use scenario::PanelLine;
 use scenario::Scenario;
@@ -67,6 +69,31 @@ fn told(rt: &LibcRuntime, day: u32, amounts: &Amounts) -> io::Result<()> {
     }
 }
 
+// The message that notifies a finding.
+fn message_of(day: u32, exposure: i64, notice: Notice) -> Message {
+    match notice {
+        Notice::Quiet => Message::Quiet { day, exposure },
+        Notice::Call { amount } => Message::Call {
+            day,
+            exposure,
+            amount,
+        },
+        Notice::Offer { amount } => Message::Offer {
+            day,
+            exposure,
+            amount,
+        },
+    }
+}
+
+// The frame in which a finding would be sent, as the first message of an agreement.
+fn sent(rt: &LibcRuntime, day: u32, message: &Message) -> io::Result<()> {
+    match first_frame(rt.alloc(), message)? {
+        Ok(digits) => println!(rt, "day {day} frame {digits}"),
+        Err(refusal) => refused(rt, day, refusal),
+    }
+}
+
 // The amounts of a day by its row.
 fn day(rt: &LibcRuntime, annex: &Annex, row: &Row, lots: &[SecuredLot]) -> io::Result<()> {
     let day = row.day;
@@ -84,7 +111,10 @@ fn day(rt: &LibcRuntime, annex: &Annex, row: &Row, lots: &[SecuredLot]) -> io::R
     }
     println!(rt, "day {day} v {v}")?;
     match amounts::weigh(annex, exposure, v) {
-        Ok(amounts) => told(rt, day, &amounts),
+        Ok(amounts) => {
+            told(rt, day, &amounts)?;
+            sent(rt, day, &message_of(day, exposure, amounts.notice))
+        }
         Err(refusal) => refused(rt, day, refusal),
     }
 }

@@ -6,6 +6,7 @@ use std::alloc::Global;
 pub(crate) const HELP: &str = "margin: what a credit support annex asks for on a day
 
   margin [FILE]     value the days of a scenario, from FILE or from standard input
+  margin frame HEX  tell what a frame says, or why it is refused and where
   margin --help     this text
 
 A scenario has one line for each fact; docs/SCENARIO.md has them all.

@@ -1,0 +1,5 @@
+use Rattle.bytes.proofs.Puts.{join, same-bytes}
+use Rattle.body.proofs.write.put_delivery.Needs as need
+
+pub returns : need.returns
+returns c = join (c .put-day-at .ensures) (join (c .put-at .ensures .0) (same-bytes (c .put .ensures .0) (c .u64-bytes .ensures)))

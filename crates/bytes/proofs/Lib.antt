@@ -1,0 +1,4 @@
+pub mod Widths
+pub mod Fronts
+pub mod Fields
+pub mod Puts

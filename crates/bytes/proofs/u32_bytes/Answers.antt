@@ -1,0 +1,8 @@
+use borrow.Author.Needs.{needs}
+use native.Mathlib.Nat.{div-one}
+use Rattle.bytes.specs.Numbers.{bytesOf}
+use Rattle.bytes.proofs.u32_bytes.Needs as need
+
+pub returns : need.returns
+unfolding bytesOf
+returns c = simp div-one (c .to-be-bytes .ensures)

@@ -1,0 +1,4 @@
+pub mod Trailers
+pub mod Parts
+pub mod Once
+pub mod Written
