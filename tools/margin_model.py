@@ -9,6 +9,7 @@ import sys
 from annex_model import Refused, Row, Terms, panel_row, sheet_row, standard_percentage, total, value, weigh
 
 WORDS = {
+    7: "the carrier is full",
     9: "terms, places or script are out of range",
     10: "a lot, class or face is out of range, or the lot is in another state",
     12: "the row, exposure or a quote is absent, out of range or of another day",
@@ -19,9 +20,56 @@ def number(word):
     return None if word == "-" else int(word)
 
 
+class Carrier:
+    """A scripted carrier: `script` has (call count, fault, position)."""
+
+    def __init__(self, places, script):
+        fit = 1 <= places <= 16 and len(script) <= 64
+        if not fit or any(not 1 <= c <= 10**9 or p > 15 for c, _, p in script):
+            raise Refused(9)
+        self.places, self.script, self.waiting, self.count = places, script, [], 0
+
+    def left(self):
+        return sum(1 for c, _, _ in self.script if c > self.count)
+
+    def strike(self, day):
+        """Counts a call; its entries act in their order."""
+        self.count += 1
+        ws = self.waiting
+        for c, fault, p in self.script:
+            if c != self.count:
+                continue
+            if p >= len(ws):
+                did = "nothing, no such frame"
+            elif fault == "lose":
+                did = "lost a frame"
+                ws.pop(p)
+            elif fault == "move":
+                did = "moved a frame to the end"
+                ws.append(ws.pop(p))
+            elif len(ws) < self.places:
+                did = "repeated a frame at the end"
+                ws.append(ws[p])
+            else:
+                did = "nothing, no free place"
+            yield f"{day} fault {fault} {p}: {did}"
+
+    def post(self, day, frame):
+        if len(self.waiting) == self.places:
+            yield f"{day} post refused 7: {WORDS[7]}"
+            return
+        yield f"{day} posted"
+        self.waiting.append(frame)
+        yield from self.strike(day)
+
+    def collect(self, day):
+        yield from self.strike(day)
+        yield f"{day} collected {self.waiting.pop(0) if self.waiting else 'nothing'}"
+
+
 def read(text):
-    terms = percentages = None
-    lots, rows, panels, values = [], [], [], []
+    terms = percentages = places = None
+    lots, rows, panels, values, script = [], [], [], [], []
     for line in text.splitlines():
         words = line.split()
         if not words or line.startswith("#"):
@@ -39,7 +87,11 @@ def read(text):
             panels.append((int(words[1]), [int(w) for w in words[3:]]))
         elif words[0] == "value":
             values.append((int(words[1]), words[2]))
-    return Terms(terms[0], terms[1:3], terms[3:5], percentages), lots, rows, panels, values
+        elif words[0] == "carrier":
+            places = int(words[2])
+        elif words[0] == "fault":
+            script.append((int(words[2]), words[3], int(words[4])))
+    return Terms(terms[0], terms[1:3], terms[3:5], percentages), lots, rows, panels, values, places, script
 
 
 def first_frame(day, exposure, notice):
@@ -73,18 +125,30 @@ def day_lines(terms, lots, rows, panels, day, source):
 
 
 def answer(text):
-    terms, lots, rows, panels, values = read(text)
-    try:
-        terms.check()
-    except Refused as refused:
-        return [f"terms refused {refused.number}: {WORDS[refused.number]}"]
+    terms, lots, rows, panels, values, places, script = read(text)
     lines = []
+    try:
+        what = "terms"
+        terms.check()
+        what = "carrier"
+        carrier = None if places is None else Carrier(places, script)
+    except Refused as refused:
+        return [f"{what} refused {refused.number}: {WORDS[refused.number]}"]
     for day, source in values:
         try:
             for line in day_lines(terms, lots, rows, panels, day, source):
                 lines.append(f"day {day} {line}")
         except Refused as refused:
             lines.append(f"day {day} refused {refused.number}: {WORDS[refused.number]}")
+            continue
+        if carrier is not None:
+            lines += carrier.post(f"day {day}", line.split()[1])
+            lines += carrier.collect(f"day {day}")
+            lines.append(f"day {day} waiting {len(carrier.waiting)} faults-left {carrier.left()}")
+    while carrier is not None:
+        lines += carrier.collect("end")
+        if lines[-1].endswith("nothing"):
+            break
     return lines
 
 
@@ -93,7 +157,7 @@ def main():
         print("\n".join(answer(pathlib.Path(sys.argv[1]).read_text())))
         return
     top = pathlib.Path(__file__).resolve().parent.parent
-    text = (top / "examples" / "valuation.txt").read_text()
+    text = (top / "examples" / "lossy-carrier.txt").read_text()
     (top / "crates" / "margin" / "stdin").write_text(text)
     (top / "crates" / "margin" / "stdout").write_text("\n".join(answer(text)) + "\n")
 

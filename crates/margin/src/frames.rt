@@ -143,14 +143,22 @@ pub(crate) fn explain(rt: &LibcRuntime, bytes: &[u8]) -> io::Result<()> {
     }
 }
 
-/// The frame in which a message would be sent first of all, as hexadecimal digits.
-pub(crate) fn first_frame(heap: Global, message: &Message) -> Result<Result<String, Refusal>, AllocError> {
-    let mut buffer = [0; 64];
-    match write_data(&mut buffer, 1, 1, message) {
-        Ok(len) => match buffer.get(0..len) {
-            Some(bytes) => Ok(Ok(hex_of(heap, bytes)?)),
-            None => Ok(Err(Refusal::SmallBuffer)),
-        },
-        Err(refusal) => Ok(Err(refusal)),
+/// A frame, in the front of its buffer.
+#[derive(Clone, Copy)]
+pub(crate) struct Written {
+    buffer: [u8; 64],
+    len: usize,
+}
+
+impl Written {
+    pub(crate) fn bytes(&self) -> &[u8] {
+        self.buffer.get(0..self.len).unwrap_or(&[])
     }
+}
+
+/// The frame in which a message would be sent as the first of an agreement.
+pub(crate) fn first_frame(message: &Message) -> Result<Written, Refusal> {
+    let mut buffer = [0; 64];
+    let len = write_data(&mut buffer, 1, 1, message)?;
+    Ok(Written { buffer, len })
 }

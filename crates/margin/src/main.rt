@@ -1,5 +1,6 @@
 //! `margin`: reads a scenario and tells what is to be called or offered back on each of its days.
 mod frames;
+mod path;
 mod report;
 mod text;
 

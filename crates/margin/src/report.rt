@@ -6,6 +6,8 @@ use amounts::SecuredLotHolding;
 use annex::Annex;
 use annex::Row;
 use crate::frames::first_frame;
+use crate::frames::hex_of;
+use crate::path::Path;
 use message::Message;
 use refusal::Refusal;
 use scenario::PanelLine;
@@ -86,16 +88,28 @@ fn message_of(day: u32, exposure: i64, notice: Notice) -> Message {
     }
 }
 
-// The frame in which a finding would be sent, as the first message of an agreement.
-fn sent(rt: &LibcRuntime, day: u32, message: &Message) -> io::Result<()> {
-    match first_frame(rt.alloc(), message)? {
-        Ok(digits) => println!(rt, "day {day} frame {digits}"),
-        Err(refusal) => refused(rt, day, refusal),
+// The frame in which a finding would be sent, as the first message of an agreement, and its way.
+fn sent(rt: &LibcRuntime, day: u32, message: &Message, path: &mut Option<Path>) -> io::Result<()> {
+    let frame = match first_frame(message) {
+        Ok(frame) => frame,
+        Err(refusal) => return refused(rt, day, refusal),
+    };
+    let digits = hex_of(rt.alloc(), frame.bytes())?;
+    println!(rt, "day {day} frame {digits}")?;
+    match path {
+        Some(path) => path.send(rt, day, frame.bytes()),
+        None => Ok(()),
     }
 }
 
 // The amounts of a day by its row.
-fn day(rt: &LibcRuntime, annex: &Annex, row: &Row, lots: &[SecuredLot]) -> io::Result<()> {
+fn day(
+    rt: &LibcRuntime,
+    annex: &Annex,
+    row: &Row,
+    lots: &[SecuredLot],
+    path: &mut Option<Path>,
+) -> io::Result<()> {
     let day = row.day;
     let v = match amounts::total(annex, row, lots) {
         Ok(v) => v,
@@ -113,7 +127,7 @@ fn day(rt: &LibcRuntime, annex: &Annex, row: &Row, lots: &[SecuredLot]) -> io::R
     match amounts::weigh(annex, exposure, v) {
         Ok(amounts) => {
             told(rt, day, &amounts)?;
-            sent(rt, day, &message_of(day, exposure, amounts.notice))
+            sent(rt, day, &message_of(day, exposure, amounts.notice), path)
         }
         Err(refusal) => refused(rt, day, refusal),
     }
@@ -143,7 +157,13 @@ fn panel_row(scenario: &Scenario, day: u32) -> Result<Row, Refusal> {
     Ok(valuer::read_row(&panel, day))
 }
 
-fn value(rt: &LibcRuntime, scenario: &Scenario, annex: &Annex, line: &ValueLine) -> io::Result<()> {
+fn value(
+    rt: &LibcRuntime,
+    scenario: &Scenario,
+    annex: &Annex,
+    line: &ValueLine,
+    path: &mut Option<Path>,
+) -> io::Result<()> {
     let number = line.day;
     let row = match line.source {
         Source::Sheet => {
@@ -158,21 +178,31 @@ fn value(rt: &LibcRuntime, scenario: &Scenario, annex: &Annex, line: &ValueLine)
             }
         }
     };
-    day(rt, annex, &row, scenario.lots.as_slice())
+    day(rt, annex, &row, scenario.lots.as_slice(), path)
 }
 
-/// The amounts of each day that the scenario wants valued, or the refusal of its terms.
+fn refused_at_once(rt: &LibcRuntime, what: &str, refusal: Refusal) -> io::Result<()> {
+    let number = refusal.number();
+    let words = refusal.words();
+    println!(rt, "{what} refused {number}: {words}")
+}
+
+/// The amounts of each day that the scenario wants valued, and the way of its frame; or the refusal of
+/// its terms or its carrier.
 pub(crate) fn valuation(rt: &LibcRuntime, scenario: &Scenario) -> io::Result<()> {
     let annex = match Annex::open(scenario.terms) {
         Ok(annex) => annex,
-        Err(refusal) => {
-            let number = refusal.number();
-            let words = refusal.words();
-            return println!(rt, "terms refused {number}: {words}");
-        }
+        Err(refusal) => return refused_at_once(rt, "terms", refusal),
+    };
+    let mut path = match Path::open(rt.alloc(), scenario)? {
+        Ok(path) => path,
+        Err(refusal) => return refused_at_once(rt, "carrier", refusal),
     };
     for line in scenario.values.iter() {
-        value(rt, scenario, &annex, line)?;
+        value(rt, scenario, &annex, line, &mut path)?;
     }
-    Ok(())
+    match &mut path {
+        Some(path) => path.drain(rt),
+        None => Ok(()),
+    }
 }

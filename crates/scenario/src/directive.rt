@@ -2,6 +2,8 @@
 use amounts::Lot;
 use amounts::SecuredLot;
 use annex::Row;
+use scripted::Entry;
+use scripted::Fault;
 use std::str::SplitWhitespace;
 
 /// Where a day's row is read from.
@@ -40,6 +42,14 @@ pub enum Directive {
     Value {
         day: u32,
         source: Source,
+    },
+    /// The carrier that the days' frames go over, by its places.
+    Carrier {
+        places: usize,
+    },
+    /// One more entry of the carrier's script.
+    Fault {
+        entry: Entry,
     },
 }
 
@@ -170,6 +180,32 @@ fn value(words: &mut SplitWhitespace<'_>) -> Option<Directive> {
     Some(Directive::Value { day, source })
 }
 
+fn carrier(words: &mut SplitWhitespace<'_>) -> Option<Directive> {
+    word(words, "places")?;
+    let places = words.next()?.parse::<usize>().ok()?;
+    nothing_more(words)?;
+    Some(Directive::Carrier { places })
+}
+
+fn fault(words: &mut SplitWhitespace<'_>) -> Option<Directive> {
+    word(words, "call")?;
+    let count = words.next()?.parse::<u32>().ok()?;
+    let fault = match words.next()? {
+        "lose" => Fault::Lose,
+        "repeat" => Fault::Repeat,
+        "move" => Fault::Move,
+        _ => return None,
+    };
+    let position = words.next()?.parse::<usize>().ok()?;
+    nothing_more(words)?;
+    let entry = Entry {
+        count,
+        fault,
+        position,
+    };
+    Some(Directive::Fault { entry })
+}
+
 impl Directive {
     /// What the line says, or what was expected in its place. The quotes of a panel are left in `words`.
     pub(crate) fn parse(words: &mut SplitWhitespace<'_>) -> Result<Directive, &'static str> {
@@ -189,7 +225,9 @@ impl Directive {
             ),
             Some("panel") => panel(words).ok_or("'panel DAY quotes' and the quotes"),
             Some("value") => value(words).ok_or("'value DAY sheet' or 'value DAY panel'"),
-            Some(_) => Err("terms, schedule, lot, row, panel or value"),
+            Some("carrier") => carrier(words).ok_or("'carrier places NUMBER'"),
+            Some("fault") => fault(words).ok_or("'fault call NUMBER' and 'lose', 'repeat' or 'move' and a position"),
+            Some(_) => Err("terms, schedule, lot, row, panel, value, carrier or fault"),
         }
     }
 }

@@ -5,6 +5,7 @@ use amounts::SecuredLot;
 use annex::Row;
 use annex::Terms;
 use annex::schedule::standard_schedule;
+use scripted::Entry;
 use std::alloc::AllocError;
 use std::alloc::Global;
 use std::alloc::Refused;
@@ -34,6 +35,9 @@ pub struct Scenario {
     pub quotes: Vec<i64>,
     pub panels: Vec<PanelLine>,
     pub values: Vec<ValueLine>,
+    /// The places of the carrier that the days' frames go over, if there is one.
+    pub places: Option<usize>,
+    pub script: Vec<Entry>,
 }
 
 /// Why a text is no scenario.
@@ -74,6 +78,8 @@ struct Draft {
     quotes: Vec<i64>,
     panels: Vec<PanelLine>,
     values: Vec<ValueLine>,
+    places: Option<usize>,
+    script: Vec<Entry>,
 }
 
 impl Draft {
@@ -86,6 +92,8 @@ impl Draft {
             quotes: Vec::new(heap),
             panels: Vec::new(heap),
             values: Vec::new(heap),
+            places: None,
+            script: Vec::new(heap),
         }
     }
 
@@ -135,6 +143,29 @@ impl Draft {
         Ok(())
     }
 
+    fn set_places(&mut self, places: usize, number: usize) -> Result<(), Unreadable> {
+        if self.places.is_some() {
+            return Err(Unreadable::Line {
+                number,
+                expected: "at most one 'carrier' line",
+            });
+        }
+        self.places = Some(places);
+        Ok(())
+    }
+
+    // An entry of the script of a carrier that stands above it.
+    fn add_fault(&mut self, entry: Entry, number: usize) -> Result<(), Unreadable> {
+        if self.places.is_none() {
+            return Err(Unreadable::Line {
+                number,
+                expected: "a 'carrier' line before the first 'fault'",
+            });
+        }
+        self.script.push(entry)?;
+        Ok(())
+    }
+
     fn add(&mut self, line: &str, number: usize) -> Result<(), Unreadable> {
         if line.starts_with('#') {
             return Ok(());
@@ -178,6 +209,8 @@ impl Draft {
                 self.values.push(ValueLine { day, source })?;
                 Ok(())
             }
+            Directive::Carrier { places } => self.set_places(places, number),
+            Directive::Fault { entry } => self.add_fault(entry, number),
         }
     }
 
@@ -190,6 +223,8 @@ impl Draft {
             quotes,
             panels,
             values,
+            places,
+            script,
         } = self;
         let Some(terms) = terms else {
             return Err(Unreadable::Missing {
@@ -211,6 +246,8 @@ impl Draft {
             quotes,
             panels,
             values,
+            places,
+            script,
         })
     }
 }

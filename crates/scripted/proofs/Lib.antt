@@ -1,0 +1,4 @@
+mod Plays
+mod Shift
+mod Ranges
+mod Strikes
