@@ -1,7 +1,7 @@
 -- Posting and collecting keep a meaning sound, keep its places, and never add to its faults left.
-use Prim.Native.Nat.{ℕ, zero, suc, _+_, _≤_, _<_}
+use Prim.Native.Nat.{ℕ, suc, _≤_, _<_}
 use lib.ListN.{drop, getD, length, length-append, take}
-use mathlib.Core.Bool.{Bool, true}
+use mathlib.Core.Bool.{true}
 use mathlib.Core.List.{List, [], _∷_, _++_}
 use mathlib.Core.Path.{_≡_, refl, sym, ap, _∙_, subst}
 use native.Mathlib.Omega.{arith}
@@ -9,12 +9,10 @@ use Rattle.std.specs.Options.{Cases}
 use Rattle.std.proofs.shelf.Lists.{take-at}
 use Rattle.std.specs.declared.option.Option.{Option}
 use Rattle.std.specs.declared.option.Option.the-variants.{Some, None}
-use Rattle.std.specs.declared.result.Result.{Result}
 use Rattle.std.specs.declared.result.Result.the-variants.{Ok, Err}
-use Rattle.refusal.specs.declared.Refusal.{Refusal}
 use Rattle.carrier.specs.Laws.{Acts-make-no-frame, Among, Carriers-stand, Collecting-keeps, Collecting-without-a-fall, Kept, Posting-keeps, Posting-without-a-fall}
 use Rattle.carrier.specs.Means.{Act, Acts, All, Fit, Means, Sound}
-use Rattle.carrier.specs.Rules.{Collected, Gathered, Joined, Posted, Taken}
+use Rattle.carrier.specs.Rules.{Gathered, Joined, Taken}
 use Rattle.carrier.proofs.Fits.{all-acts, all-append, room-acts}
 
 pub kept-refl : {m : Means} → Sound m → Kept m m

@@ -6,7 +6,7 @@ use mathlib.Core.List.{List, [], _∷_, _++_}
 use mathlib.Core.Path.{_≡_}
 use Rattle.std.specs.declared.option.Option.{Option}
 use Rattle.std.specs.declared.result.Result.{Result}
-use Rattle.std.specs.declared.result.Result.the-variants.{Ok, Err}
+use Rattle.std.specs.declared.result.Result.the-variants.{Ok}
 use Rattle.refusal.specs.declared.Refusal.{Refusal}
 use Rattle.carrier.specs.Means.{Act, Acts, All, Means, Sound}
 use Rattle.carrier.specs.Rules.{Collected, Posted, Taken}

@@ -1,5 +1,5 @@
 -- That what a carrier of this crate means is well formed.
-use Prim.Native.Nat.{ℕ, _≤_}
+use Prim.Native.Nat.{_≤_}
 use lib.ListN.{length}
 use mathlib.Core.List.{List, [], _∷_, map}
 use native.Mathlib.Omega.{arith}
@@ -9,7 +9,7 @@ use Rattle.std.proofs.shelf.Lists.{length-take-le}
 use Rattle.carrier.specs.declared.frame.Frame.{Frame}
 use Rattle.carrier.specs.declared.slip.Slip.{Slip}
 use Rattle.carrier.specs.Held.{held}
-use Rattle.carrier.specs.Means.{All, Fit, Means, Sound}
+use Rattle.carrier.specs.Means.{All, Fit, Sound}
 use Rattle.carrier.specs.SlipMeans.{atMostOne, slipMeans}
 
 -- a frame holds 1 to 64 bytes, since its own invariant says so

@@ -5,6 +5,8 @@ ghost use mathlib.Core.Path.{_≡_};
 
 pub mod bytes;
 
+pub use bytes::LONGEST_FRAME;
+
 /// A frame of 1 to 64 bytes.
 #[derive(Clone, Copy)]
 pub struct Frame {

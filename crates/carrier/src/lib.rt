@@ -6,6 +6,7 @@ pub mod promise;
 pub mod slip;
 
 pub use frame::Frame;
+pub use frame::LONGEST_FRAME;
 pub use promise::Carrier;
 pub use promise::carriers_stand;
 pub use slip::Slip;

@@ -3,6 +3,7 @@ ghost use mathlib.Core.Path.{_≡_};
 ghost use Rattle.carrier.specs.Laws.{Carriers-stand};
 ghost use Rattle.carrier.specs.Means.{Means, Sound};
 ghost use Rattle.carrier.specs.Rules.{Collected, Posted};
+use crate::frame::LONGEST_FRAME;
 use refusal::Refusal;
 
 /// What takes frames one way. It may lose, copy and move what waits, as often as it has faults left.
@@ -32,9 +33,8 @@ pub fn carriers_stand() -> usize
     longest()
 }
 
-// The most bytes that a frame has.
 fn longest() -> usize
     ensures { λ r. ⌜ r ≡ 64 ⌝ }
 {
-    64
+    LONGEST_FRAME
 }

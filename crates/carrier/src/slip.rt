@@ -4,11 +4,9 @@ ghost use Rattle.carrier.specs.Means.{Means};
 ghost use Rattle.carrier.specs.SlipMeans.{emptySlip, slipMeans};
 ghost use Rattle.carrier.specs.Sounds.{slip-sound};
 use crate::frame::Frame;
+use crate::frame::LONGEST_FRAME;
 use crate::promise::Carrier;
 use refusal::Refusal;
-
-/// The fewest bytes that a buffer may have.
-const SHORTEST_BUFFER: usize = 64;
 
 /// A carrier of one place that never faults.
 #[derive(Clone, Copy)]
@@ -42,7 +40,7 @@ pub impl Carrier for Slip as SlipCarrier {
     }
 
     fn collect(&mut self, buffer: &mut [u8]) -> Result<Option<usize>, Refusal> {
-        if buffer.len() < SHORTEST_BUFFER {
+        if buffer.len() < LONGEST_FRAME {
             return Err(Refusal::SmallBuffer);
         }
         match self.waiting {

@@ -18,7 +18,9 @@ pub const NUMBER_WIDTH: usize = 4;
 pub const TRAILER_LENGTH: usize = 2 * NUMBER_WIDTH + 4;
 /// The longest frame, and the shortest buffer that is written to.
 pub const LONGEST_FRAME: usize = 64;
+
 pub const LAST_NUMBER: u64 = 1_000_000;
+
 pub const VERSION: u8 = 0x01;
 /// The tag of a data frame.
 pub const DATA: u8 = 0x44;
@@ -26,8 +28,11 @@ pub const DATA: u8 = 0x44;
 pub const ALONE: u8 = 0x4B;
 
 const ACKNOWLEDGEMENT_AT: usize = NUMBER_WIDTH;
+
 const TAG_AT: usize = 2 * NUMBER_WIDTH;
+
 const VERSION_AT: usize = TAG_AT + 1;
+
 const BACK_AT: usize = TAG_AT + 2;
 
 /// The fields of a trailer, fit or not.

@@ -2,7 +2,6 @@
 ghost use mathlib.Core.Path.{_≡_};
 ghost use Rattle.frame.specs.Laws.{Frames-read-back, Frames-read-once, Reads-back, Reads-once, Writes-again};
 ghost use Rattle.frame.specs.Packets.{Reads, ReadsFrame};
-use body::read::read_message;
 use crate::Frame;
 use crate::Packet;
 use crate::layout::ALONE;
@@ -10,6 +9,7 @@ use crate::layout::LONGEST_FRAME;
 use crate::layout::TRAILER_LENGTH;
 use crate::layout::read_trailer;
 use crate::layout::unfit_trailer;
+use body::read_message;
 use refusal::Refusal;
 
 fn read_judged<'a>(bytes: &'a [u8]) -> Result<Frame<'a>, Refusal>
@@ -63,8 +63,9 @@ fn read_whole(bytes: &[u8]) -> Result<Packet, Refusal>
     match read_frame(bytes) {
         Err(refusal) => Err(refusal),
         Ok(frame) => match frame {
-            Frame::Acknowledgement { acknowledgement } =>
-                Ok(Packet::Acknowledgement { acknowledgement }),
+            Frame::Acknowledgement { acknowledgement } => Ok(Packet::Acknowledgement {
+                acknowledgement,
+            }),
             Frame::Data {
                 number,
                 acknowledgement,

@@ -4,8 +4,6 @@ ghost use mathlib.Core.Path.{_≡_};
 ghost use Rattle.frame.specs.declared.Packet.the-variants.{Acknowledgement, Data};
 ghost use Rattle.frame.specs.Laws.{Frames-differ, Writes-once, Written-reads-back};
 ghost use Rattle.frame.specs.Packets.{Writes};
-use body::write::body_len;
-use body::write::put_body;
 use crate::layout::ALONE;
 use crate::layout::DATA;
 use crate::layout::LONGEST_FRAME;
@@ -16,6 +14,8 @@ use crate::layout::VERSION;
 use crate::layout::acknowledgement_fits;
 use crate::layout::put_trailer;
 use crate::layout::unfit_trailer;
+use body::body_len;
+use body::put_body;
 use message::Message;
 use refusal::Refusal;
 

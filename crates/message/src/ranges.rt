@@ -3,10 +3,15 @@ ghost use mathlib.Core.Path.{_≡_};
 ghost use Rattle.message.specs.Ranges.{amountFits, classFits, dayFits, exposureFits, faceFits, lotFits};
 
 pub const LAST_DAY: u32 = 1_000_000_000;
+
 pub const LARGEST_EXPOSURE: i64 = 10_000_000_000_000;
+
 pub const LARGEST_AMOUNT: u64 = 20_000_000_000_000;
+
 pub const LAST_LOT: u8 = 31;
+
 pub const LAST_CLASS: u8 = 7;
+
 pub const LARGEST_FACE: u64 = 10_000_000_000;
 
 pub fn day_fits(day: u32) -> bool

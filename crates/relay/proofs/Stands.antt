@@ -2,8 +2,8 @@
 use Prim.Native.Nat.{ℕ, _≤_}
 use lib.ListN.{drop, length, take}
 use mathlib.Core.List.{List, [], _∷_, _++_}
-use mathlib.Core.Logic.{_⊎_, inl, inr, ⊎-elim}
-use mathlib.Core.Path.{_≡_, refl, sym, ap, subst, _∙_}
+use mathlib.Core.Logic.{inl, inr}
+use mathlib.Core.Path.{_≡_, sym, ap, _∙_}
 use native.Mathlib.Omega.{arith}
 use Rattle.std.specs.Options.{Cases}
 use Rattle.std.specs.declared.option.Option.{Option}
@@ -13,8 +13,8 @@ use Rattle.std.specs.declared.result.Result.the-variants.{Ok, Err}
 use Rattle.std.proofs.shelf.Lists.{take-at}
 use Rattle.refusal.specs.declared.Refusal.{Refusal}
 use Rattle.refusal.specs.Numbers.{numberOf}
-use Rattle.carrier.specs.Means.{All, Fit, Means, Sound}
-use Rattle.carrier.specs.Rules.{Collected, Gathered, Posted, PostRefused, Taken}
+use Rattle.carrier.specs.Means.{Fit, Means, Sound}
+use Rattle.carrier.specs.Rules.{Collected, PostRefused, Taken}
 use Rattle.carrier.proofs.Keep.{gathered-frame, gathered-length, plain-collect, plain-post}
 use Rattle.relay.specs.Relays.{Found, Kept-only-when-full, Moved-without-a-fall, Relays-stand, Was-full, Went}
 

@@ -1,21 +1,18 @@
 -- What an entry does, as the code does it, as fault acts, and under a map.
-use Prim.Native.Nat.{ℕ, zero, suc, _+_, _-_, _≤_, _<_}
+use Prim.Native.Nat.{ℕ, suc, _+_, _≤_, _<_}
 use native.Mathlib.Omega.{arith}
-use native.Mathlib.Numerals.{add-one}
-use mathlib.Core.Path.{_≡_, refl, sym, ap, subst, _∙_}
+use mathlib.Core.Path.{_≡_, refl, sym, ap, _∙_}
 use mathlib.Core.Bool.{Bool, true, false, cond}
-use mathlib.Core.Logic.{_⊎_, inl, inr}
 use mathlib.Core.List.{List, [], _∷_, _++_, map}
-use lib.ListN.{length, getD, take, drop, length-append, length-map}
+use lib.ListN.{length, getD, take, drop, length-map}
 use lib.Dec.{ltb, eqb}
-use borrow.Author.Tests.{lt-ltb, le-ltb, ltb-true, ltb-false, eq-eqb, ne-eqb, eqb-true, eqb-false}
-use Rattle.std.specs.Holes.{removed, inserted}
-use Rattle.std.proofs.shelf.Lists.{append-nil, take-all, drop-all, drop-more, map-append, take-map, drop-map, getD-read}
-use Rattle.std.proofs.shelf.Edits.{length-removed}
+use borrow.Author.Tests.{lt-ltb, eq-eqb, ne-eqb}
+use Rattle.std.specs.Holes.{removed}
+use Rattle.std.proofs.shelf.Lists.{append-nil, take-all, drop-all, drop-more, map-append, take-map, drop-map}
 use Rattle.scripted.specs.declared.script.Fault.{Fault}
 use Rattle.scripted.specs.declared.script.Fault.the-variants.{Lose, Repeat, Move}
 use Rattle.scripted.specs.declared.script.Entry.{Entry}
-use Rattle.scripted.specs.Script.{itemAt, byFault, acted, play, unused}
+use Rattle.scripted.specs.Script.{itemAt, byFault, acted, play}
 
 module _ {X : Type 0} where
   none-at : (ws : List X) (i : ℕ) → length ws ≤ i → itemAt ws i ≡ []

@@ -1,19 +1,16 @@
 -- The loop that tests a script, and the meaning of a carrier just opened.
-use Prim.Native.Nat.{ℕ, suc, _+_, _≤_, _<_}
+use Prim.Native.Nat.{ℕ, _+_, _≤_, _<_}
 use native.Mathlib.Omega.{arith}
 use mathlib.Core.Path.{_≡_, refl, sym, ap, _∙_}
 use mathlib.Core.Bool.{Bool, true, false, cond, _&&_}
-use mathlib.Core.List.{List, [], _∷_, map}
+use mathlib.Core.List.{List, [], _∷_}
 use lib.ListN.{length, getD, drop}
 use lib.Dec.{leb, ltb}
 use borrow.Author.Tests.{leb-true, lt-ltb}
 use Rattle.std.proofs.shelf.Lists.{at-drop-more, at-drop-all}
 use Rattle.std.proofs.shelf.Tests.{and-parts}
-use Rattle.carrier.specs.declared.frame.Frame.{Frame}
 use Rattle.scripted.specs.declared.script.Entry.{Entry}
-use Rattle.carrier.specs.Held.{held}
-use Rattle.carrier.specs.Means.{Means}
-use Rattle.scripted.specs.Script.{entryFits, entriesFit, scriptFits, unused}
+use Rattle.scripted.specs.Script.{entryFits, entriesFit, unused}
 use Rattle.scripted.specs.Opens.{opens}
 
 pub bad : (s : List Entry) (i : ℕ) (d : Entry) → i < length s → entryFits (getD s i d) ≡ false → entriesFit (drop i s) ≡ entriesFit s → false ≡ entriesFit s

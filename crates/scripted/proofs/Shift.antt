@@ -1,10 +1,10 @@
 -- Closing the gap that a removed element leaves.
-use Prim.Native.Nat.{ℕ, suc, min, _+_, _-_, _<_, _≤_}
+use Prim.Native.Nat.{ℕ, suc, _+_, _-_, _<_, _≤_}
 use native.Mathlib.Omega.{arith}
 use native.Mathlib.Numerals.{add-one}
-use mathlib.Core.Path.{_≡_, refl, sym, ap, _∙_}
-use mathlib.Core.List.{List, [], _∷_, _++_}
-use lib.ListN.{length, getD, take, drop, length-take, length-drop, length-append}
+use mathlib.Core.Path.{_≡_, sym, ap, _∙_}
+use mathlib.Core.List.{List, _++_}
+use lib.ListN.{length, getD, take, drop, length-drop, length-append}
 use borrow.Rule.Slice.PartMut.{putMid, postOf}
 use Rattle.std.specs.Holes.{removed}
 use Rattle.std.proofs.shelf.Lists.{append-assoc, getD-default, getD-take, take-at, take-take, drop-drop, drop-take, length-take-le}

@@ -16,7 +16,7 @@ use Rattle.std.proofs.shelf.Lists.{drop-all, drop-more, getD-default, map-appen
 use Rattle.std.proofs.shelf.Ways.{tells}
 use Rattle.carrier.specs.declared.frame.Frame.{Frame}
 use Rattle.carrier.specs.Held.{held}
-use Rattle.carrier.specs.Means.{Act, Acts, copy, done, Fit, lose, Means, move}
+use Rattle.carrier.specs.Means.{Act, Acts, copy, done, Fit, lose, move}
 use Rattle.carrier.specs.Rules.{Gathered, Joined, Taken}
 use Rattle.scripted.specs.declared.script.Entry.{Entry}
 use Rattle.scripted.specs.declared.script.Fault.{Fault}

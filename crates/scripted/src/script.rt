@@ -9,7 +9,7 @@ use crate::line::Line;
 /// The most entries of a script.
 const MOST_ENTRIES: usize = 64;
 /// The last count that a call has.
-const LAST_COUNT: u32 = 1_000_000_000;
+pub(crate) const LAST_COUNT: u32 = 1_000_000_000;
 /// The last position that an entry may name.
 const LAST_POSITION: usize = 15;
 

@@ -4,10 +4,10 @@
 //! both tell the answer and what the buffer, all EE before, then holds.
 use frame::Frame;
 use frame::Packet;
-use frame::read::read_frame;
-use frame::read::read_packet;
-use frame::write::write_acknowledgement;
-use frame::write::write_data;
+use frame::read_frame;
+use frame::read_packet;
+use frame::write_acknowledgement;
+use frame::write_data;
 use message::Message;
 use message::MessageDebug;
 use refusal::Layer;
@@ -112,11 +112,13 @@ fn print_packet(rt: &LibcRuntime, bytes: &[u8]) -> Result<(), AnyError> {
             print!(rt, "acknowledgement {acknowledgement}")?;
             Ok(())
         }
-        Ok(Packet::Data {
-            number,
-            acknowledgement,
-            message,
-        }) => {
+        Ok(
+            Packet::Data {
+                number,
+                acknowledgement,
+                message,
+            },
+        ) => {
             print!(rt, "data {number} {acknowledgement} {message:?}")?;
             Ok(())
         }
@@ -184,7 +186,7 @@ fn print_written(
     print_hex(rt, buffer)
 }
 
-fn columns(line: &str) -> Result<Columns, AnyError> {
+fn columns_of(line: &str) -> Result<Columns, AnyError> {
     let mut c = Columns {
         room: 0,
         number: 0,
@@ -226,7 +228,7 @@ fn answer(rt: &LibcRuntime, line: &str) -> Result<(), AnyError> {
         print!(rt, " | ")?;
         print_packet(rt, bytes.as_slice())?;
     } else {
-        let c = columns(line)?;
+        let c = columns_of(line)?;
         let mut buffer = vec![in rt.alloc(); 0xEEu8; c.room]?;
         if line.starts_with("write ") {
             if let Some(message) = message_of(&c) {

@@ -19,5 +19,5 @@ returns c =
         rest = λ k h. drop-putMid (c .args .at) _ (c .args .buffer .now) (c .copy-from-slice .last .self) k (omega arith) (omega arith) (omega arith);
         kept = same-len-mid (c .args .at) _ (c .args .buffer .now) (c .copy-from-slice .last .self) (c .copy-from-slice .ensures .len);
       },
-      λ none. let z : ⊥ = omega arith in absurd z
+      λ none. let z : ⊥ = omega arith in absurd z,
     )

@@ -8,7 +8,7 @@ use crate::frame::Frame;
 use refusal::Refusal;
 
 /// The most bytes that a frame has, and the fewest that a buffer may have.
-const LONGEST: usize = 64;
+pub const LONGEST_FRAME: usize = 64;
 
 impl Frame {
     /// The frame with these bytes; refused where there are none or more than 64.
@@ -16,7 +16,7 @@ impl Frame {
         ensures { λ r. ⌜ Framed (now (source .entry)) r ⌝ }
     {
         let len = source.len();
-        if len == 0 || len > LONGEST {
+        if len == 0 || len > LONGEST_FRAME {
             return Err(Refusal::FrameLength);
         }
         let mut bytes = [0u8; 64];
@@ -36,7 +36,7 @@ impl Frame {
     pub fn fill(&self, buffer: &mut [u8]) -> Result<usize, Refusal>
         ensures { λ r. ⌜ Filled (held (now (self .entry))) (now (buffer .entry)) r (now (buffer .exit)) ⌝ }
     {
-        if buffer.len() < LONGEST {
+        if buffer.len() < LONGEST_FRAME {
             return Err(Refusal::SmallBuffer);
         }
         let len = self.len;

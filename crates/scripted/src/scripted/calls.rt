@@ -2,17 +2,14 @@
 ghost use Rattle.carrier.specs.Means.{Means};
 ghost use Rattle.carrier.specs.Rules.{Collected, Posted};
 ghost use Rattle.scripted.specs.ScriptedMeans.{CollectedByScript, FirstTaken, PostedByScript, scripted-sound, scriptedMeans, stateOf, Struck};
+use crate::script::LAST_COUNT;
 use crate::script::has_room;
 use crate::script::play;
 use crate::scripted::Scripted;
 use carrier::Carrier;
 use carrier::Frame;
+use carrier::LONGEST_FRAME;
 use refusal::Refusal;
-
-/// The last count that a call has.
-const LAST_COUNT: u32 = 1_000_000_000;
-/// The fewest bytes that a buffer may have.
-const SHORTEST_BUFFER: usize = 64;
 
 impl Scripted {
     // Counts a call, and lets its entries act; after the last count no entry acts.
@@ -61,7 +58,7 @@ pub impl Carrier for Scripted as ScriptedCarrier {
         ensures rule { λ r. ⌜ Collected (scriptedMeans (now (self .entry))) (now (buffer .entry)) r (scriptedMeans (now (self .exit))) (now (buffer .exit)) ⌝ }
         ensures exact { λ r. ⌜ CollectedByScript (stateOf (now (self .entry))) (now (buffer .entry)) r (stateOf (now (self .exit))) (now (buffer .exit)) ⌝ }
     {
-        if buffer.len() < SHORTEST_BUFFER {
+        if buffer.len() < LONGEST_FRAME {
             return Err(Refusal::SmallBuffer);
         }
         self.strike();

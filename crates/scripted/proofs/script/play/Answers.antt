@@ -1,6 +1,5 @@
 use borrow.Author.Needs.{needs}
-use native.Mathlib.Omega.{arith}
-use mathlib.Core.Path.{_∙_, ap, refl, sym}
+use mathlib.Core.Path.{_∙_, ap}
 use Rattle.scripted.specs.Lines.{lineItems}
 use Rattle.scripted.proofs.Plays.{play-hit, play-miss, play-end}
 use Rattle.scripted.proofs.script.play.Needs as need
