@@ -7,13 +7,35 @@ import struct
 import sys
 
 from annex_model import Refused, Row, Terms, panel_row, sheet_row, standard_percentage, total, value, weigh
+from books_model import Pledgor, Secured
 
 WORDS = {
     7: "the carrier is full",
     9: "terms, places or script are out of range",
     10: "a lot, class or face is out of range, or the lot is in another state",
+    11: "the day is not later, or the last day has not ended",
     12: "the row, exposure or a quote is absent, out of range or of another day",
+    13: "the state of the day does not allow it",
+    14: "what was delivered is below the amount",
+    15: "weighing the row does not give the finding",
 }
+
+FIELDS = {
+    "quiet": "day {} exposure {}",
+    "call": "day {} exposure {} amount {}",
+    "offer": "day {} exposure {} amount {}",
+    "agree": "day {}",
+    "dispute": "day {} undisputed {}",
+    "resolve": "day {} exposure {} amount {}",
+    "delivery": "day {} lot {} class {} face {}",
+    "substitute": "lot {} class {} face {} for lot {}",
+    "ask": "day {} lot {}",
+    "return": "lot {}",
+    "decline": "lot {}",
+    "satisfied": "day {}",
+    "release": "day {}",
+}
+STEPS = set("notify resolve confirm reply answer deliver substitute ask release book show".split())
 
 
 def number(word):
@@ -70,6 +92,7 @@ class Carrier:
 def read(text):
     terms = percentages = places = None
     lots, rows, panels, values, script = [], [], [], [], []
+    own_lots, own_rows, steps = [], [], []
     for line in text.splitlines():
         words = line.split()
         if not words or line.startswith("#"):
@@ -91,7 +114,14 @@ def read(text):
             places = int(words[2])
         elif words[0] == "fault":
             script.append((int(words[2]), words[3], int(words[4])))
-    return Terms(terms[0], terms[1:3], terms[3:5], percentages), lots, rows, panels, values, places, script
+        elif words[0] == "own-lot":
+            own_lots.append((int(words[2]), int(words[4])))
+        elif words[0] == "own-row":
+            own_rows.append(Row(int(words[1]), number(words[3]), [number(w) for w in words[5:13]]))
+        elif words[0] in STEPS:
+            steps.append(words)
+    terms = Terms(terms[0], terms[1:3], terms[3:5], percentages)
+    return terms, lots, rows, panels, values, places, script, (own_lots, own_rows, steps)
 
 
 def first_frame(day, exposure, notice):
@@ -124,8 +154,61 @@ def day_lines(terms, lots, rows, panels, day, source):
     yield f"frame {first_frame(day, exposure, notice)}"
 
 
+def said(message):
+    return f"{message[0]} {FIELDS[message[0]].format(*message[1:])}"
+
+
+def shown(s, p, forth, back):
+    yield f"secured day {s.day} {s.state} amount {s.amount}"
+    yield f"secured delivered {s.delivered} freed {s.freed} v {s.v()} uncovered {s.uncovered()}"
+    for n, (state, c, f) in enumerate(s.lots):
+        if state != "absent":
+            yield f"secured position lot {n} class {c} face {f} {state}"
+    yield f"pledgor day {p.day} {p.state} amount {p.amount}"
+    for n, (place, c, f) in enumerate(p.lots):
+        if place != "home":
+            yield f"pledgor position lot {n} class {c} face {f} {place}"
+    yield f"under-way to-pledgor {len(forth)} to-secured {len(back)}"
+
+
+def agreement_lines(terms, rows, panels, own_lots, own_rows, steps):
+    s, p = Secured(terms), Pledgor(terms, own_lots)
+    forth, back = [], []
+    for words in steps:
+        if words[0] == "show":
+            yield from shown(s, p, forth, back)
+            continue
+        name, args = " ".join(words), [int(w) for w in words[1:] if w.isdigit()]
+        try:
+            if words[0] == "book":
+                book, queue = (s, back) if words[1] == "secured" else (p, forth)
+                if not queue:
+                    yield f"{name}: nothing under way"
+                    continue
+                message = queue.pop(0)
+                yield f"{name}: {'booked' if book.book(message) else 'misfit'} {said(message)}"
+                continue
+            if words[0] == "notify":
+                row = sheet_row(rows, args[0])
+                message = s.notify(s.weigh(row), row)
+            elif words[0] == "resolve":
+                quotes = next((q for d, q in panels if d == s.day), [])
+                row = sheet_row(rows, s.day) if words[1] == "sheet" else panel_row(s.day, quotes, s.day)
+                message = s.resolve(row.exposure)
+            elif words[0] in ("confirm", "reply"):
+                message = getattr(s, words[0])(*args)
+            elif words[0] == "answer":
+                message = p.answer(sheet_row(own_rows, p.day))
+            else:
+                message = getattr(p, words[0])(*args)
+            (forth if words[0] in ("notify", "resolve", "confirm", "reply") else back).append(message)
+            yield f"{name}: issued {said(message)}"
+        except Refused as refused:
+            yield f"{name}: refused {refused.number}: {WORDS[refused.number]}"
+
+
 def answer(text):
-    terms, lots, rows, panels, values, places, script = read(text)
+    terms, lots, rows, panels, values, places, script, (own_lots, own_rows, steps) = read(text)
     lines = []
     try:
         what = "terms"
@@ -149,7 +232,18 @@ def answer(text):
         lines += carrier.collect("end")
         if lines[-1].endswith("nothing"):
             break
+    if steps:
+        try:
+            lines += agreement_lines(terms, rows, panels, own_lots, own_rows, steps)
+        except Refused as refused:
+            lines.append(f"refused {refused.number}: {WORDS[refused.number]}")
     return lines
+
+
+def steps_of(path):
+    """A scenario without its terms and its schedule, to follow another."""
+    lines = path.read_text().splitlines()
+    return "\n" + "\n".join(line for line in lines if not line.startswith(("terms", "schedule"))) + "\n"
 
 
 def main():
@@ -157,7 +251,7 @@ def main():
         print("\n".join(answer(pathlib.Path(sys.argv[1]).read_text())))
         return
     top = pathlib.Path(__file__).resolve().parent.parent
-    text = (top / "examples" / "lossy-carrier.txt").read_text()
+    text = (top / "examples" / "lossy-carrier.txt").read_text() + steps_of(top / "examples" / "dispute.txt")
     (top / "crates" / "margin" / "stdin").write_text(text)
     (top / "crates" / "margin" / "stdout").write_text("\n".join(answer(text)) + "\n")
 

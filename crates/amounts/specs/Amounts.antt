@@ -56,6 +56,14 @@ amountsOf t e v =
 abbrev pub weighed : Terms → ℤ → ℕ → Result Amounts Refusal
 weighed t e v = cond (exposureFits e) (Ok (amountsOf t e v)) (Err refused.Row)
 
+-- what is called for: the Delivery Amount, or zero below the pledgor's minimum
+abbrev pub dueAmount : Terms → ℤ → ℕ → ℕ
+dueAmount t e v = cond (leb (t .«pledgor_minimum») (deliveryAmount t e v)) (deliveryAmount t e v) 0
+
+-- that, or 12 where the exposure is out of range
+abbrev pub dueOr : Terms → ℤ → ℕ → Result ℕ Refusal
+dueOr t e v = cond (exposureFits e) (Ok (dueAmount t e v)) (Err refused.Row)
+
 -- what the pledgor would owe, less what the collateral is worth
 abbrev pub uncovered : Terms → ℤ → ℕ → ℤ
 uncovered t e v = adjusted t e -ℤ pos v

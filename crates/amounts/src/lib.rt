@@ -15,4 +15,5 @@ pub use valuing::total;
 pub use valuing::value;
 pub use weighing::Amounts;
 pub use weighing::Notice;
+pub use weighing::due;
 pub use weighing::weigh;

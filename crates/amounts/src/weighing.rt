@@ -3,7 +3,7 @@ ghost use mathlib.Core.Path.{_≡_};
 ghost use Prim.Native.Nat.{ℕ, _-_, _≤_};
 ghost use lib.IntN.{negsuc, pos};
 ghost use lib.Signed.{_≤ℤ_};
-ghost use Rattle.amounts.specs.Amounts.{adjusted as Adjusted, Balanced, Covered, creditSupport, noticeOf, weighed};
+ghost use Rattle.amounts.specs.Amounts.{adjusted as Adjusted, Balanced, Covered, creditSupport, dueOr, noticeOf, weighed};
 ghost use Rattle.std.specs.Vec.{made};
 use annex::Annex;
 use annex::Terms;
@@ -96,4 +96,21 @@ pub fn weigh(annex: &Annex, exposure: i64, v: u64) -> Result<Amounts, Refusal>
         excess,
         notice: decide(&terms, delivery, excess),
     })
+}
+
+/// What is called for at an exposure and a V: the Delivery Amount, or zero below the pledgor's minimum;
+/// refused where the exposure is out of range.
+pub fn due(annex: &Annex, exposure: i64, v: u64) -> Result<u64, Refusal>
+    ensures { λ r. ⌜ r ≡ dueOr (now (annex .entry) .terms) exposure v ⌝ }
+{
+    if !exposure_fits(exposure) {
+        return Err(Refusal::Row);
+    }
+    let terms = annex.terms();
+    let delivery = excess(credit_support(&terms, exposure), v);
+    if terms.pledgor_minimum <= delivery {
+        Ok(delivery)
+    } else {
+        Ok(0)
+    }
 }

@@ -1,6 +1,6 @@
 -- The ranges behind the test of terms and of an exposure.
-use mathlib.Core.Bool.{true}
-use mathlib.Core.Path.{_≡_, refl}
+use mathlib.Core.Bool.{Bool, true, false, cond}
+use mathlib.Core.Path.{_≡_, refl, subst}
 use Prim.Native.Nat.{ℕ, _≤_}
 use lib.Dec.{leb}
 use lib.IntN.{ℤ, pos, negsuc}
@@ -12,7 +12,14 @@ use Rattle.std.proofs.shelf.Signed.{ints}
 use Rattle.std.proofs.shelf.Tests.{and-parts}
 use Rattle.annex.specs.declared.terms.Terms.{Terms}
 use Rattle.annex.specs.Every.{every}
-use Rattle.annex.specs.Row.{exposureFits}
+use Rattle.std.specs.declared.option.Option.{Option}
+use Rattle.std.specs.declared.option.Option.the-variants.{Some, None}
+use Rattle.std.specs.declared.result.Result.{Result}
+use Rattle.std.specs.declared.result.Result.the-variants.{Ok, Err}
+use Rattle.refusal.specs.declared.Refusal.{Refusal}
+use Rattle.refusal.specs.declared.Refusal.the-variants as refused
+use Rattle.annex.specs.declared.row.Row.{Row}
+use Rattle.annex.specs.Row.{checkedAt, checkedRow, dayFits, exposureFits, priceFits, rowFits}
 use Rattle.annex.specs.Terms.{termsFit, percentageFits, within}
 use Rattle.annex.proofs.Tests.{every-getD}
 
@@ -53,3 +60,25 @@ exposure-range e h =
     let a = p .0 in
     let b = p .1 in
     (grind (arith, ints), grind (arith, ints))
+
+-- a row that passed its check, at the exposure that it gave
+pub record Checked (r : Row) (e : ℤ) : Type 0 where
+  pub day-fits : dayFits (r .day) ≡ true
+  pub exposure-fits : exposureFits e ≡ true
+  pub prices-fit : every priceFits (r .prices) ≡ true
+
+pub checked : (r : Row) (e : ℤ) → checkedRow r ≡ Ok e → Checked r e
+checked r e h = at (r .exposure) h where
+  parts : (x : ℤ) → rowFits r x ≡ true → Checked r x
+  parts x t =
+      let a = and-parts (dayFits (r .day)) _ t in
+      let b = and-parts (exposureFits x) _ (a .1) in
+      record { day-fits = a .0; exposure-fits = b .0; prices-fit = b .1 }
+
+  tested : (x : ℤ) (b : Bool) → rowFits r x ≡ b → _≡_ {A = Result ℤ Refusal} (cond b (Ok x) (Err refused.Row)) (Ok e) → Checked r e
+  tested x true t q = let same : x ≡ e = cc in subst (Checked r) same (parts x t)
+  tested x false t q = let z : _≡_ {A = ℕ} 0 1 = cc in let y : ⊥ = omega arith in absurd y
+
+  at : (o : Option ℤ) → checkedAt r o ≡ Ok e → Checked r e
+  at None q = let z : _≡_ {A = ℕ} 0 1 = cc in let y : ⊥ = omega arith in absurd y
+  at (Some x) q = tested x (rowFits r x) refl q

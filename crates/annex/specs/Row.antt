@@ -31,7 +31,8 @@ priceFits (Some p) = leb p 20000
 abbrev pub rowFits : Row → ℤ → Bool
 rowFits r e = dayFits (r .day) && (exposureFits e && every priceFits (r .prices))
 
-abbrev checkedAt : Row → Option ℤ → Result ℤ Refusal
+-- the same by the exposure that the row tells
+abbrev pub checkedAt : Row → Option ℤ → Result ℤ Refusal
 checkedAt r None = Err refused.Row
 checkedAt r (Some e) = cond (rowFits r e) (Ok e) (Err refused.Row)
 

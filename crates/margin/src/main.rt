@@ -1,4 +1,5 @@
 //! `margin`: reads a scenario and tells what is to be called or offered back on each of its days.
+mod agreement;
 mod frames;
 mod path;
 mod report;

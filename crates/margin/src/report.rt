@@ -5,6 +5,7 @@ use amounts::SecuredLot;
 use amounts::SecuredLotHolding;
 use annex::Annex;
 use annex::Row;
+use crate::agreement::agreement;
 use crate::frames::first_frame;
 use crate::frames::hex_of;
 use crate::path::Path;
@@ -201,8 +202,8 @@ pub(crate) fn valuation(rt: &LibcRuntime, scenario: &Scenario) -> io::Result<()>
     for line in scenario.values.iter() {
         value(rt, scenario, &annex, line, &mut path)?;
     }
-    match &mut path {
-        Some(path) => path.drain(rt),
-        None => Ok(()),
+    if let Some(path) = &mut path {
+        path.drain(rt)?;
     }
+    agreement(rt, scenario, annex)
 }

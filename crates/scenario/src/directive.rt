@@ -13,6 +13,26 @@ pub enum Source {
     Panel,
 }
 
+/// One step of an agreement: a call of either end, or the booking of the oldest message under way.
+#[derive(Clone, Copy)]
+pub enum Step {
+    /// The secured end weighs the sheet's row of this day, and notifies what it comes to.
+    Notify { day: u32 },
+    Resolve { source: Source },
+    Confirm,
+    Reply { lot: u8 },
+    /// The pledgor answers with its own row of its day.
+    Answer,
+    Deliver { lot: u8 },
+    Substitute { new: u8, old: u8 },
+    Ask { lot: u8 },
+    Release,
+    BookAtSecured,
+    BookAtPledgor,
+    /// Both books are told.
+    Show,
+}
+
 /// What a line says.
 #[derive(Clone, Copy)]
 pub enum Directive {
@@ -46,6 +66,17 @@ pub enum Directive {
     /// The carrier that the days' frames go over, by its places.
     Carrier {
         places: usize,
+    },
+    /// One more lot of the pledgor.
+    OwnLot {
+        lot: Lot,
+    },
+    /// One more row of the pledgor's own sheet.
+    OwnRow {
+        row: Row,
+    },
+    Step {
+        step: Step,
     },
     /// One more entry of the carrier's script.
     Fault {
@@ -145,7 +176,7 @@ fn price(words: &mut SplitWhitespace<'_>) -> Option<Option<u32>> {
     }
 }
 
-fn row(words: &mut SplitWhitespace<'_>) -> Option<Directive> {
+fn row(words: &mut SplitWhitespace<'_>) -> Option<Row> {
     let day = day(words)?;
     word(words, "exposure")?;
     let exposure = exposure(words)?;
@@ -155,12 +186,85 @@ fn row(words: &mut SplitWhitespace<'_>) -> Option<Directive> {
         prices[class] = price(words)?;
     }
     nothing_more(words)?;
-    let row = Row {
+    Some(Row {
         day,
         exposure,
         prices,
-    };
+    })
+}
+
+fn sheet_row(words: &mut SplitWhitespace<'_>) -> Option<Directive> {
+    let row = row(words)?;
     Some(Directive::Row { row })
+}
+
+fn own_row(words: &mut SplitWhitespace<'_>) -> Option<Directive> {
+    let row = row(words)?;
+    Some(Directive::OwnRow { row })
+}
+
+fn own_lot(words: &mut SplitWhitespace<'_>) -> Option<Directive> {
+    word(words, "class")?;
+    let class = words.next()?.parse::<u8>().ok()?;
+    word(words, "face")?;
+    let face = amount(words)?;
+    nothing_more(words)?;
+    let lot = Lot { class, face };
+    Some(Directive::OwnLot { lot })
+}
+
+fn lot_number(words: &mut SplitWhitespace<'_>) -> Option<u8> {
+    words.next()?.parse::<u8>().ok()
+}
+
+fn step_of(kind: &str, words: &mut SplitWhitespace<'_>) -> Option<Step> {
+    let step = match kind {
+        "notify" => Step::Notify { day: day(words)? },
+        "reply" => Step::Reply { lot: lot_number(words)? },
+        "deliver" => Step::Deliver { lot: lot_number(words)? },
+        "ask" => Step::Ask { lot: lot_number(words)? },
+        "confirm" => Step::Confirm,
+        "answer" => Step::Answer,
+        "release" => Step::Release,
+        "show" => Step::Show,
+        _ => return None,
+    };
+    nothing_more(words)?;
+    Some(step)
+}
+
+fn two_word_step(kind: &str, words: &mut SplitWhitespace<'_>) -> Option<Step> {
+    let step = match kind {
+        "substitute" => {
+            let new = lot_number(words)?;
+            let old = lot_number(words)?;
+            Step::Substitute { new, old }
+        }
+        "resolve" => Step::Resolve { source: source_of(words)? },
+        _ => match words.next()? {
+            "secured" => Step::BookAtSecured,
+            "pledgor" => Step::BookAtPledgor,
+            _ => return None,
+        },
+    };
+    nothing_more(words)?;
+    Some(step)
+}
+
+fn step_line(kind: &str, words: &mut SplitWhitespace<'_>) -> Option<Directive> {
+    let step = match kind {
+        "substitute" | "resolve" | "book" => two_word_step(kind, words)?,
+        _ => step_of(kind, words)?,
+    };
+    Some(Directive::Step { step })
+}
+
+fn source_of(words: &mut SplitWhitespace<'_>) -> Option<Source> {
+    match words.next()? {
+        "sheet" => Some(Source::Sheet),
+        "panel" => Some(Source::Panel),
+        _ => None,
+    }
 }
 
 fn panel(words: &mut SplitWhitespace<'_>) -> Option<Directive> {
@@ -171,11 +275,7 @@ fn panel(words: &mut SplitWhitespace<'_>) -> Option<Directive> {
 
 fn value(words: &mut SplitWhitespace<'_>) -> Option<Directive> {
     let day = day(words)?;
-    let source = match words.next()? {
-        "sheet" => Source::Sheet,
-        "panel" => Source::Panel,
-        _ => return None,
-    };
+    let source = source_of(words)?;
     nothing_more(words)?;
     Some(Directive::Value { day, source })
 }
@@ -206,6 +306,21 @@ fn fault(words: &mut SplitWhitespace<'_>) -> Option<Directive> {
     Some(Directive::Fault { entry })
 }
 
+// A line of an agreement's steps, or what was expected in its place.
+fn agreement(kind: &str, words: &mut SplitWhitespace<'_>) -> Result<Directive, &'static str> {
+    match kind {
+        "own-lot" => own_lot(words).ok_or("'own-lot class CLASS face AMOUNT'"),
+        "own-row" => own_row(words).ok_or("'own-row DAY exposure NUMBER prices' and eight prices, '-' for none"),
+        "notify" => step_line(kind, words).ok_or("'notify DAY'"),
+        "resolve" => step_line(kind, words).ok_or("'resolve sheet' or 'resolve panel'"),
+        "reply" | "deliver" | "ask" => step_line(kind, words).ok_or("'reply LOT', 'deliver LOT' or 'ask LOT'"),
+        "substitute" => step_line(kind, words).ok_or("'substitute NEW-LOT OLD-LOT'"),
+        "book" => step_line(kind, words).ok_or("'book secured' or 'book pledgor'"),
+        "confirm" | "answer" | "release" | "show" => step_line(kind, words).ok_or("'confirm', 'answer', 'release' or 'show' alone"),
+        _ => Err("a line that docs/SCENARIO.md has"),
+    }
+}
+
 impl Directive {
     /// What the line says, or what was expected in its place. The quotes of a panel are left in `words`.
     pub(crate) fn parse(words: &mut SplitWhitespace<'_>) -> Result<Directive, &'static str> {
@@ -220,14 +335,14 @@ impl Directive {
             Some("lot") => lot(words).ok_or(
                 "'lot class CLASS face AMOUNT' and 'held', 'owed-back' or 'decline-owed'",
             ),
-            Some("row") => row(words).ok_or(
+            Some("row") => sheet_row(words).ok_or(
                 "'row DAY exposure NUMBER prices' and eight prices, '-' for none",
             ),
             Some("panel") => panel(words).ok_or("'panel DAY quotes' and the quotes"),
             Some("value") => value(words).ok_or("'value DAY sheet' or 'value DAY panel'"),
             Some("carrier") => carrier(words).ok_or("'carrier places NUMBER'"),
             Some("fault") => fault(words).ok_or("'fault call NUMBER' and 'lose', 'repeat' or 'move' and a position"),
-            Some(_) => Err("terms, schedule, lot, row, panel, value, carrier or fault"),
+            Some(kind) => agreement(kind, words),
         }
     }
 }

@@ -5,6 +5,7 @@ pub mod reading;
 
 pub use directive::Directive;
 pub use directive::Source;
+pub use directive::Step;
 pub use reading::PanelLine;
 pub use reading::Scenario;
 pub use reading::Unreadable;

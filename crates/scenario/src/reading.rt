@@ -1,6 +1,8 @@
 //! A whole scenario: every line is read before anything is done.
 use crate::directive::Directive;
 use crate::directive::Source;
+use crate::directive::Step;
+use amounts::Lot;
 use amounts::SecuredLot;
 use annex::Row;
 use annex::Terms;
@@ -38,6 +40,11 @@ pub struct Scenario {
     /// The places of the carrier that the days' frames go over, if there is one.
     pub places: Option<usize>,
     pub script: Vec<Entry>,
+    /// The pledgor's lots, and its own sheet.
+    pub own_lots: Vec<Lot>,
+    pub own_rows: Vec<Row>,
+    /// What the two ends do, in order.
+    pub steps: Vec<Step>,
 }
 
 /// Why a text is no scenario.
@@ -80,6 +87,9 @@ struct Draft {
     values: Vec<ValueLine>,
     places: Option<usize>,
     script: Vec<Entry>,
+    own_lots: Vec<Lot>,
+    own_rows: Vec<Row>,
+    steps: Vec<Step>,
 }
 
 impl Draft {
@@ -94,6 +104,9 @@ impl Draft {
             values: Vec::new(heap),
             places: None,
             script: Vec::new(heap),
+            own_lots: Vec::new(heap),
+            own_rows: Vec::new(heap),
+            steps: Vec::new(heap),
         }
     }
 
@@ -211,6 +224,18 @@ impl Draft {
             }
             Directive::Carrier { places } => self.set_places(places, number),
             Directive::Fault { entry } => self.add_fault(entry, number),
+            Directive::OwnLot { lot } => {
+                self.own_lots.push(lot)?;
+                Ok(())
+            }
+            Directive::OwnRow { row } => {
+                self.own_rows.push(row)?;
+                Ok(())
+            }
+            Directive::Step { step } => {
+                self.steps.push(step)?;
+                Ok(())
+            }
         }
     }
 
@@ -225,6 +250,9 @@ impl Draft {
             values,
             places,
             script,
+            own_lots,
+            own_rows,
+            steps,
         } = self;
         let Some(terms) = terms else {
             return Err(Unreadable::Missing {
@@ -248,6 +276,9 @@ impl Draft {
             values,
             places,
             script,
+            own_lots,
+            own_rows,
+            steps,
         })
     }
 }

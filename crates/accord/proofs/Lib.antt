@@ -1,0 +1,5 @@
+pub mod Words
+pub mod Lots
+pub mod Days
+pub mod Accord
+pub mod Agreement

@@ -1,0 +1,3 @@
+pub mod Standing
+pub mod Accord
+pub mod Agreement

@@ -1,0 +1,12 @@
+pub mod Lists
+pub mod Channels
+pub mod Half
+pub mod Runs
+pub mod Frames
+pub mod Calm
+pub mod Keeping
+pub mod Windows
+pub mod Settling
+pub mod Goes
+pub mod Lift
+pub mod Queues

@@ -1,0 +1,6 @@
+pub mod Lots
+pub mod Bookings
+pub mod Calls
+pub mod Sound
+pub mod Opening
+pub mod Books

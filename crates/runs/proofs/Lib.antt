@@ -1,0 +1,9 @@
+pub mod Acting
+pub mod Lifting
+pub mod Hearing
+pub mod Counting
+pub mod Ranging
+pub mod Shadows
+pub mod Going
+pub mod Settling
+pub mod Holding

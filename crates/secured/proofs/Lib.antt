@@ -1,0 +1,4 @@
+pub mod Tables
+pub mod Ranges
+pub mod Cover
+pub mod Sound
