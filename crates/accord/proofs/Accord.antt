@@ -1,5 +1,5 @@
 -- The accord of the two books is kept by every call and every booking.
-use Prim.Native.Nat.{ℕ, _<_, _≤_}
+use Prim.Native.Nat.{ℕ, _<_}
 use native.Mathlib.Omega.{arith}
 use mathlib.Core.Path.{_≡_, refl, sym, ap, _∙_, subst}
 use mathlib.Core.Bool.{Bool, true, false, cond, _&&_, _||_}
@@ -8,20 +8,19 @@ use lib.Dec.{eqb, ltb, leb}
 use lib.ListN.{set, length, length-set}
 use lib.IntN.{ℤ}
 use Rattle.std.proofs.shelf.Tests.{ltb-true, leb-false, lt-ltb, le-leb, eq-eqb, and-parts, and-from}
-use Rattle.std.specs.Vec.{made}
 use Rattle.std.specs.declared.result.Result.{Result}
 use Rattle.std.specs.declared.result.Result.the-variants.{Ok, Err}
 use Rattle.refusal.specs.declared.Refusal.{Refusal}
 use Rattle.refusal.specs.declared.Refusal.the-variants as refused
 use Rattle.annex.specs.declared.row.Row.{Row}
 use Rattle.annex.specs.Row.{checkedRow}
-use Rattle.amounts.specs.declared.lots.Place.the-variants.{Home, Posted, Asked}
+use Rattle.amounts.specs.declared.lots.Place.the-variants.{Posted, Asked}
 use Rattle.amounts.specs.declared.lots.PledgorLot.{PledgorLot}
 use Rattle.amounts.specs.declared.lots.SecuredLot.{SecuredLot}
 use Rattle.amounts.specs.declared.lots.SecuredLot.the-variants.{Absent, Held, OwedBack, DeclineOwed}
 use Rattle.amounts.specs.declared.weighing.Notice.{Notice}
 use Rattle.amounts.specs.declared.weighing.Notice.the-variants as notice
-use Rattle.amounts.specs.Amounts.{creditSupport, deliveryAmount, dueAmount, noticeOf, returnAmount}
+use Rattle.amounts.specs.Amounts.{dueAmount}
 use Rattle.day.specs.declared.Day.{Day}
 use Rattle.day.specs.declared.DayState.{DayState}
 use Rattle.day.specs.declared.DayState.the-variants as day
@@ -36,24 +35,21 @@ use Rattle.secured.specs.Bookings.{answerFits, answered, lotOf}
 use Rattle.secured.specs.Calls as secured-calls
 use Rattle.secured.specs.Calls.{SecuredCall, notify, resolve, confirm, reply, beginning, confirming, exposureOr, noticed, notifying, replying, resolveFits, resolving, telling}
 use Rattle.secured.specs.Lots as holds
-use Rattle.secured.specs.Sound.{Sound}
 use Rattle.secured.specs.Weighs.{sameNotice, weighing, weighs}
-use Rattle.secured.proofs.Cover.{books-kept}
-use Rattle.secured.proofs.Ranges as securely
-use Rattle.secured.proofs.Sound.{drafts-sound}
 use Rattle.pledgor.specs.declared.state.PledgorState.{PledgorState}
 use Rattle.pledgor.specs.Bookings as pledgor
-use Rattle.pledgor.specs.Bookings.{noticeFits, told}
+use Rattle.pledgor.specs.Bookings.{noticeFits}
 use Rattle.pledgor.specs.Calls as pledgor-calls
 use Rattle.pledgor.specs.Calls.{PledgorCall, answer, deliver, substitute, ask, release, answerOf, answering}
 use Rattle.pledgor.specs.Lots as posts
-use Rattle.pledgor.specs.Lots.{homeAt, isHome, isPosted, moved, postedAt}
+use Rattle.pledgor.specs.Lots.{homeAt, isHome, isPosted, postedAt}
 use Rattle.pledgor.specs.Sound.{Ranged}
-use Rattle.pledgor.proofs.Ranges.{books-ranged, drafts-ranged}
 use Rattle.accord.specs.Standing.{about}
-use Rattle.accord.specs.Accord.{Accord, Days, Lots, dated, isReply}
+use Rattle.accord.specs.Accord.{Accord, Days, Lots, dated}
 use Rattle.accord.proofs.Lots.{secured-fit, secured-book, pledgor-fit, pledgor-book, none-forth, none-back, return-issue, decline-issue, deliver-issue, ask-issue, substitute-issue, withLots}
 use Rattle.accord.proofs.Days.{waits, ended-waits, disputed-waits, closing-waits, called-waits, offered-waits, notice-issue, reply-issue, answer-issue, lots-issue, answer-fit, notice-fit, answer-book, notice-book}
+use Rattle.accord.proofs.Own.{books-ranged, move-ranged}
+use Rattle.accord.proofs.Cover.{counted, books-kept, notify-kept, resolve-kept, confirm-kept, reply-kept}
 
 -- what a call issues behind a test
 refuses : {A E : Type 0} (P : A → Type 0) (r : E) (y : A) → _≡_ {A = Result A E} (Err r) (Ok y) → P y
@@ -79,9 +75,21 @@ weighs-is s r w P q k = behind P (isEnded (s .day .state) && ltb (s .day .number
       let b = and-parts (isEnded (s .day .state)) (ltb (s .day .number) (r .day)) t in
       gives P (weighing s r x) w (sym z ∙ q) (k x (b .0) (b .1))
 
--- what a call that issues leaves
-made-of : {A E : Type 0} (P : A → Type 0) (x : Result A E) (y : A) → x ≡ Ok y → made x P → P y
-made-of P x y e h = subst (λ z. made z P) e h
+secured-length : (s : SecuredState) (m : Message) → length (secured.lotsAfter s m) ≡ length (s .lots)
+secured-length s (Quiet n e) = refl
+secured-length s (Call n e a) = refl
+secured-length s (Offer n e a) = refl
+secured-length s (Agree n) = refl
+secured-length s (Dispute n a) = refl
+secured-length s (Resolve n e a) = refl
+secured-length s (Delivery n l c f) = length-set (s .lots) l (Held (lotOf c f))
+secured-length s (Substitute l c f o) =
+    length-set (set (s .lots) l (Held (lotOf c f))) o (secured.owe (secured.replaces s (lotOf c f) o) (holds.lotAt s o)) ∙ length-set (s .lots) l (Held (lotOf c f))
+secured-length s (Ask n l) = length-set (s .lots) l (secured.owe (secured.frees s n l) (holds.lotAt s l))
+secured-length s (Return l) = refl
+secured-length s (Decline l) = refl
+secured-length s (Satisfied n) = refl
+secured-length s (Release n) = refl
 
 module _ (s : SecuredState) (p : PledgorState) (xs ys : List Message) where
   -- the next message fits, and booking it keeps the accord
@@ -101,26 +109,28 @@ module _ (s : SecuredState) (p : PledgorState) (xs ys : List Message) where
       let t = secured-fits m h in
       record {
         terms = h .terms;
-        lots = secured-book s p xs ys (h .sound .0 .3) m (and-parts (answerFits (s .day) m) (secured.lotsFit s m) t .1) (h .lots);
+        lots = secured-book s p xs ys (h .size) m (and-parts (answerFits (s .day) m) (secured.lotsFit s m) t .1) (h .lots);
         days = answer-book (s .day) (p .day) xs ys m (h .days);
-        sound = (securely.books-ranged s (h .sound .0) m t, books-kept s (h .sound .0 .3) (h .sound .1) m t);
+        kept = books-kept s (h .size) m t (h .kept);
+        size = secured-length s m ∙ h .size;
         ranged = h .ranged;
       }
 
   pub pledgor-books : (m : Message) → Accord s p (m ∷ xs) ys → Accord s (pledgor.books p m) xs ys
   pledgor-books m h =
-      let t = pledgor-fits m h in
+      let t = and-parts (noticeFits (p .day) m) (pledgor.lotsFit p m) (pledgor-fits m h) .1 in
       record {
         terms = h .terms;
-        lots = pledgor-book s p xs ys (h .ranged) m (and-parts (noticeFits (p .day) m) (pledgor.lotsFit p m) t .1) (h .lots);
+        lots = pledgor-book s p xs ys (h .ranged) m t (h .lots);
         days = notice-book (s .day) (p .day) xs ys m (h .days);
-        sound = h .sound;
+        kept = h .kept;
+        size = h .size;
         ranged = books-ranged p (h .ranged) m t;
       }
 
-  -- terms, lots and days after a call of the secured end
+  -- what a call of the secured end leaves
   Forth : Message × SecuredState → Type 0
-  Forth z = (holds.termsOf (z .1) ≡ posts.termsOf p) × Lots (z .1) p (xs ++ (z .0 ∷ [])) ys × Days (z .1 .day) (p .day) (xs ++ (z .0 ∷ [])) ys
+  Forth z = Accord (z .1) p (xs ++ (z .0 ∷ [])) ys
 
   module _ (h : Accord s p xs ys) where
     notice-about : (n : ℕ) (e : ℤ) (x : Notice) (k : ℕ) → about k (telling n e x) ≡ []
@@ -140,7 +150,14 @@ module _ (s : SecuredState) (p : PledgorState) (xs ys : List Message) where
     unfolding Forth Noticed
     notice-forth r e t u =
         let w = weighing s r e in
-        (h .terms, none-forth s p xs ys (telling (r .day) e (w .notice)) (notice-about (r .day) e (w .notice)) (h .lots), notice-days (r .day) e (w .notice) t u)
+        record {
+          terms = h .terms;
+          lots = none-forth s p xs ys (telling (r .day) e (w .notice)) (notice-about (r .day) e (w .notice)) (h .lots);
+          days = notice-days (r .day) e (w .notice) t u;
+          kept = notify-kept s r e;
+          size = h .size;
+          ranged = h .ranged;
+        }
 
     notify-issue : (f : Finding) (r : Row) (x : Result Weighing Refusal) → weighs s r ≡ x → (z : Message × SecuredState) → notifying s f r x ≡ Ok z → Forth z
     unfolding Noticed
@@ -156,44 +173,74 @@ module _ (s : SecuredState) (p : PledgorState) (xs ys : List Message) where
     unfolding Forth
     resolve-issue x z e = passed Forth (isDisputed (s .day .state)) _ refused.State z e (λ t.
         let m = Resolve (s .day .number) x (dueAmount (holds.termsOf s) x (s .before)) in
-        (h .terms, none-forth s p xs ys m (λ k. refl) (h .lots), notice-issue (s .day) (p .day) xs ys m (disputed-waits (s .day .state) t) (and-from (isDisputed (s .day .state)) (eqb (s .day .number) (s .day .number)) t same-day) (h .days)))
+        record {
+          terms = h .terms;
+          lots = none-forth s p xs ys m (λ k. refl) (h .lots);
+          days = notice-issue (s .day) (p .day) xs ys m (disputed-waits (s .day .state) t) (and-from (isDisputed (s .day .state)) (eqb (s .day .number) (s .day .number)) t same-day) (h .days);
+          kept = resolve-kept s x t (h .kept);
+          size = h .size;
+          ranged = h .ranged;
+        })
 
     confirm-issue : (z : Message × SecuredState) → confirming s ≡ Ok z → Forth z
     unfolding Forth
     confirm-issue z e = behind Forth (isClosing (s .day .state)) _ refused.State z e (λ c q.
         passed Forth (isReleased (s .day .state) || leb (s .day .amount) (s .delivered)) _ refused.BelowAmount z q (λ t.
         let m = Satisfied (s .day .number) in
-        (h .terms, none-forth s p xs ys m (λ k. refl) (h .lots), notice-issue (s .day) (p .day) xs ys m (closing-waits (s .day .state) c) (and-from (isClosing (s .day .state)) (eqb (s .day .number) (s .day .number)) c same-day) (h .days))))
+        record {
+          terms = h .terms;
+          lots = none-forth s p xs ys m (λ k. refl) (h .lots);
+          days = notice-issue (s .day) (p .day) xs ys m (closing-waits (s .day .state) c) (and-from (isClosing (s .day .state)) (eqb (s .day .number) (s .day .number)) c same-day) (h .days);
+          kept = confirm-kept s c t (h .kept);
+          size = h .size;
+          ranged = h .ranged;
+        }))
 
     reply-to : (l : ℕ) → l < 32 → (a : SecuredLot) → holds.lotAt s l ≡ a → (z : Message × SecuredState) → replying s l a ≡ Ok z → Forth z
     unfolding Forth
     reply-to l i Absent q z e = refuses Forth refused.Lot z e
     reply-to l i (Held v) q z e = refuses Forth refused.Lot z e
-    reply-to l i (OwedBack v) q z e = gives Forth (Return l, secured-calls.withLot s l Absent) z e ((h .terms, return-issue s p xs ys l (omega (arith, h .sound .0 .3)) (h .lots) v q, reply-issue (s .day) (p .day) xs ys (Return l) refl (h .days)))
-    reply-to l i (DeclineOwed v) q z e = gives Forth (Decline l, secured-calls.withLot s l (Held v)) z e ((h .terms, decline-issue s p xs ys l (omega (arith, h .sound .0 .3)) (h .lots) v q, reply-issue (s .day) (p .day) xs ys (Decline l) refl (h .days)))
-
-    secured-forth : (c : SecuredCall) (z : Message × SecuredState) → secured-calls.drafts s c ≡ Ok z → Forth z
-    secured-forth (notify f r) z e = notify-issue f r (weighs s r) refl z e
-    secured-forth (resolve x) z e = behind Forth (resolveFits x) (resolving s (exposureOr x (s .exposure))) refused.Row z e (λ _ q. resolve-issue (exposureOr x (s .exposure)) z q)
-    secured-forth confirm z e = confirm-issue z e
-    secured-forth (reply l) z e = behind Forth (ltb l 32) (replying s l (holds.lotAt s l)) refused.Lot z e (λ i q. reply-to l (ltb-true l 32 i) (holds.lotAt s l) refl z q)
+    reply-to l i (OwedBack v) q z e = gives Forth (Return l, secured-calls.withLot s l Absent) z e (record {
+      terms = h .terms;
+      lots = return-issue s p xs ys l (omega (arith, h .size)) (h .lots) v q;
+      days = reply-issue (s .day) (p .day) xs ys (Return l) refl (h .days);
+      kept = reply-kept s l Absent (h .size) i (ap (counted s) q) (h .kept);
+      size = length-set (s .lots) l Absent ∙ h .size;
+      ranged = h .ranged;
+    })
+    reply-to l i (DeclineOwed v) q z e = gives Forth (Decline l, secured-calls.withLot s l (Held v)) z e (record {
+      terms = h .terms;
+      lots = decline-issue s p xs ys l (omega (arith, h .size)) (h .lots) v q;
+      days = reply-issue (s .day) (p .day) xs ys (Decline l) refl (h .days);
+      kept = reply-kept s l (Held v) (h .size) i (ap (counted s) q) (h .kept);
+      size = length-set (s .lots) l (Held v) ∙ h .size;
+      ranged = h .ranged;
+    })
 
     -- every call of the secured end that issues a message
     pub secured-issues : (c : SecuredCall) (m : Message) (t : SecuredState) → secured-calls.drafts s c ≡ Ok (m, t) → Accord t p (xs ++ (m ∷ [])) ys
     unfolding Forth
-    secured-issues c m t e =
-        let f = secured-forth c (m, t) e in
-        record { terms = f .0; lots = f .1; days = f .2; sound = made-of (λ z. Sound (z .1)) (secured-calls.drafts s c) (m, t) e (drafts-sound s (h .sound .0) (h .sound .1) c); ranged = h .ranged }
+    secured-issues (notify f r) m t e = notify-issue f r (weighs s r) refl (m, t) e
+    secured-issues (resolve x) m t e = behind Forth (resolveFits x) (resolving s (exposureOr x (s .exposure))) refused.Row (m, t) e (λ _ q. resolve-issue (exposureOr x (s .exposure)) (m, t) q)
+    secured-issues confirm m t e = confirm-issue (m, t) e
+    secured-issues (reply l) m t e = behind Forth (ltb l 32) (replying s l (holds.lotAt s l)) refused.Lot (m, t) e (λ i q. reply-to l (ltb-true l 32 i) (holds.lotAt s l) refl (m, t) q)
 
-  -- terms, lots and days after a call of the pledgor
+  -- what a call of the pledgor leaves
   Back : Message × PledgorState → Type 0
-  Back z = (holds.termsOf s ≡ posts.termsOf (z .1)) × Lots s (z .1) xs (ys ++ (z .0 ∷ [])) × Days (s .day) (z .1 .day) xs (ys ++ (z .0 ∷ []))
+  Back z = Accord s (z .1) xs (ys ++ (z .0 ∷ []))
 
   module _ (h : Accord s p xs ys) where
     -- an answer
     answer-back : (m : Message) (x : DayState) → ((k : ℕ) → about k m ≡ []) → waits (p .day .state) ≡ true → answerFits (p .day) m ≡ true → answered (p .day) m ≡ dayIn (p .day) x → Back (m, pledgor-calls.withDay p x)
     unfolding Back
-    answer-back m x n w t e = (h .terms, none-back s p xs ys m n (h .lots), subst (λ d. Days (s .day) d xs (ys ++ (m ∷ []))) e (answer-issue (s .day) (p .day) xs ys m w t (h .days)))
+    answer-back m x n w t e = record {
+      terms = h .terms;
+      lots = none-back s p xs ys m n (h .lots);
+      days = subst (λ d. Days (s .day) d xs (ys ++ (m ∷ []))) e (answer-issue (s .day) (p .day) xs ys m w t (h .days));
+      kept = h .kept;
+      size = h .size;
+      ranged = h .ranged;
+    }
 
     own-day : eqb (p .day .number) (p .day .number) ≡ true
     own-day = eq-eqb (p .day .number) (p .day .number) refl
@@ -214,9 +261,16 @@ module _ (s : SecuredState) (p : PledgorState) (xs ys : List Message) where
         passed Back (isCalled (p .day .state)) _ refused.State z q (λ c. answer-of c (dueAmount (posts.termsOf p) x (posts.valueBy p r))))
 
     -- a message about lots
-    about-back : (m : Message) (ls : List PledgorLot) → Lots s (withLots p ls) xs (ys ++ (m ∷ [])) → dated (p .day .number) m ≡ true → Back (m, withLots p ls)
+    about-back : (m : Message) (ls : List PledgorLot) → Lots s (withLots p ls) xs (ys ++ (m ∷ [])) → dated (p .day .number) m ≡ true → Ranged (withLots p ls) → Back (m, withLots p ls)
     unfolding Back
-    about-back m ls g t = (h .terms, g, lots-issue (s .day) (p .day) xs ys m t (h .days))
+    about-back m ls g t r = record {
+      terms = h .terms;
+      lots = g;
+      days = lots-issue (s .day) (p .day) xs ys m t (h .days);
+      kept = h .kept;
+      size = h .size;
+      ranged = r;
+    }
 
     today : leb (p .day .number) (p .day .number) ≡ true
     today = le-leb (p .day .number) (p .day .number) (omega arith)
@@ -230,26 +284,22 @@ module _ (s : SecuredState) (p : PledgorState) (xs ys : List Message) where
     at-posted : (l : ℕ) → postedAt p l ≡ true → (l < p .count) × (isPosted (posts.lotAt p l .place) ≡ true)
     at-posted l u = let r = and-parts (ltb l (p .count)) (isPosted (posts.lotAt p l .place)) u in (ltb-true l (p .count) (r .0), r .1)
 
-    pledgor-back : (c : PledgorCall) (z : Message × PledgorState) → pledgor-calls.drafts p c ≡ Ok z → Back z
-    pledgor-back (answer r) z e = answer-to r (checkedRow r) z e
-    pledgor-back (deliver l) z e = behind Back (homeAt p l) _ refused.Lot z e (λ u q. passed Back (isOpen (p .day .state)) _ refused.State z q (λ _.
+    -- every call of the pledgor that issues a message
+    pub pledgor-issues : (c : PledgorCall) (m : Message) (t : PledgorState) → pledgor-calls.drafts p c ≡ Ok (m, t) → Accord s t xs (ys ++ (m ∷ []))
+    unfolding Back
+    pledgor-issues (answer r) m t e = answer-to r (checkedRow r) (m, t) e
+    pledgor-issues (deliver l) m t e = behind Back (homeAt p l) _ refused.Lot (m, t) e (λ u q. passed Back (isOpen (p .day .state)) _ refused.State (m, t) q (λ _.
         let r = at-home l u in
-        about-back (pledgor-calls.delivery p l) (pledgor-calls.withLot p l Posted .lots) (deliver-issue s p xs ys (h .lots) l (inside l (r .0)) (r .1)) today))
-    pledgor-back (substitute l o) z e = passed Back (homeAt p l && postedAt p o) _ refused.Lot z e (λ u.
+        about-back (pledgor-calls.delivery p l) (pledgor-calls.withLot p l Posted .lots) (deliver-issue s p xs ys (h .lots) l (inside l (r .0)) (r .1)) today (move-ranged p (h .ranged) l Posted (r .0))))
+    pledgor-issues (substitute l o) m t e = passed Back (homeAt p l && postedAt p o) _ refused.Lot (m, t) e (λ u.
         let q = and-parts (homeAt p l) (postedAt p o) u in
         let r = at-home l (q .0) in
         let v = at-posted o (q .1) in
         let one = pledgor-calls.withLot p l Posted in
-        about-back (pledgor-calls.substitution p l o) (pledgor-calls.withLot one o Asked .lots) (substitute-issue s p xs ys (h .lots) l o (inside l (r .0)) (r .1) (inside o (v .0)) (v .1)) refl)
-    pledgor-back (ask l) z e = behind Back (postedAt p l) _ refused.Lot z e (λ u q. passed Back (isOffered (p .day .state)) _ refused.State z q (λ _.
+        about-back (pledgor-calls.substitution p l o) (pledgor-calls.withLot one o Asked .lots) (substitute-issue s p xs ys (h .lots) l o (inside l (r .0)) (r .1) (inside o (v .0)) (v .1)) refl
+        (move-ranged one (move-ranged p (h .ranged) l Posted (r .0)) o Asked (v .0)))
+    pledgor-issues (ask l) m t e = behind Back (postedAt p l) _ refused.Lot (m, t) e (λ u q. passed Back (isOffered (p .day .state)) _ refused.State (m, t) q (λ _.
         let r = at-posted l u in
-        about-back (Ask (p .day .number) l) (pledgor-calls.withLot p l Asked .lots) (ask-issue s p xs ys (h .lots) (p .day .number) l (inside l (r .0)) (r .1)) today))
-    pledgor-back release z e = passed Back (isOffered (p .day .state)) _ refused.State z e (λ u.
+        about-back (Ask (p .day .number) l) (pledgor-calls.withLot p l Asked .lots) (ask-issue s p xs ys (h .lots) (p .day .number) l (inside l (r .0)) (r .1)) today (move-ranged p (h .ranged) l Asked (r .0))))
+    pledgor-issues release m t e = passed Back (isOffered (p .day .state)) _ refused.State (m, t) e (λ u.
         answer-back (Release (p .day .number)) day.Released (λ k. refl) (offered-waits (p .day .state) u) (and-from (isOffered (p .day .state)) (eqb (p .day .number) (p .day .number)) u own-day) refl)
-
-    -- every call of the pledgor that issues a message
-    pub pledgor-issues : (c : PledgorCall) (m : Message) (t : PledgorState) → pledgor-calls.drafts p c ≡ Ok (m, t) → Accord s t xs (ys ++ (m ∷ []))
-    unfolding Back
-    pledgor-issues c m t e =
-        let b = pledgor-back c (m, t) e in
-        record { terms = b .0; lots = b .1; days = b .2; sound = h .sound; ranged = made-of (λ z. Ranged (z .1)) (pledgor-calls.drafts p c) (m, t) e (drafts-ranged p (h .ranged) c) }

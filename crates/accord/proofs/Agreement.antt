@@ -1,16 +1,13 @@
 -- The accord over runs, and what it promises.
-use Prim.Native.Nat.{ℕ, _-_, _<_, _≤_}
-use native.Mathlib.Omega.{arith}
-use mathlib.Core.Path.{_≡_, refl, sym, ap, _∙_, subst}
-use mathlib.Core.Logic.{_⊎_, inl, inr, ⊎-elim}
-use mathlib.Core.Bool.{Bool, true, false, cond, _&&_, _||_}
-use mathlib.Core.List.{List, [], _∷_, _++_, map}
-use lib.Dec.{eqb, leb}
-use lib.ListN.{length, replicate}
-use Rattle.std.proofs.shelf.Lists.{getD-append-left, getD-append-right, getD-map, length-map}
-use Rattle.std.proofs.shelf.Tests.{leb-true, and-parts, cases-lt}
-use Rattle.std.specs.declared.option.Option.{Option}
-use Rattle.std.specs.declared.option.Option.the-variants.{Some, None}
+use Prim.Native.Nat.{_≤_}
+use mathlib.Core.Path.{_≡_, refl, sym, subst}
+use mathlib.Core.Logic.{_⊎_, inl, inr}
+use mathlib.Core.Bool.{true, _&&_, _||_}
+use mathlib.Core.List.{List, [], _∷_}
+use lib.Dec.{leb}
+use lib.ListN.{length, length-replicate}
+use borrow.Author.Tests.{clash}
+use Rattle.std.proofs.shelf.Tests.{leb-true, and-parts}
 use Rattle.std.specs.declared.result.Result.{Result}
 use Rattle.std.specs.declared.result.Result.the-variants.{Ok, Err}
 use Rattle.refusal.specs.declared.Refusal.{Refusal}
@@ -25,39 +22,27 @@ use Rattle.amounts.specs.declared.lots.SecuredLot.the-variants.{Absent}
 use Rattle.amounts.specs.Lots.{lotFits}
 use Rattle.day.specs.declared.Day.{Day}
 use Rattle.message.specs.declared.Message.{Message}
-use Rattle.message.specs.declared.Message.the-variants.{Quiet, Call, Offer, Agree, Dispute, Resolve, Delivery, Substitute, Ask, Return, Decline, Satisfied, Release}
 use Rattle.secured.specs.declared.state.SecuredState.{SecuredState}
 use Rattle.secured.specs.Bookings as secured
-use Rattle.secured.specs.Bookings.{lotOf}
 use Rattle.secured.specs.Calls as secured-calls
 use Rattle.secured.specs.Lots as holds
 use Rattle.secured.specs.Opening as secured-opening
-use Rattle.secured.proofs.Cover.{kept-covered, opened-kept}
-use Rattle.secured.proofs.Ranges as securely
 use Rattle.pledgor.specs.declared.state.PledgorState.{PledgorState}
 use Rattle.pledgor.specs.Bookings as pledgor
 use Rattle.pledgor.specs.Calls as pledgor-calls
 use Rattle.pledgor.specs.Lots as posts
 use Rattle.pledgor.specs.Opening as pledgor-opening
-use Rattle.pledgor.proofs.Ranges.{opened-ranged}
-use Rattle.pledgor.proofs.Tables.{repeated}
-use Rattle.accord.specs.Standing.{Word, new, old, returned, declined, only, about, words, Standing, home, sent, held, sent-asked, asked, owed-back, decline-owed, back, refused}
+use Rattle.accord.specs.Standing.{words, Standing, home, back}
 use Rattle.accord.specs.Accord.{Accord, Days}
-use Rattle.accord.specs.Agreement.{after, joined, Reached, opening, secured-call, pledgor-call, secured-booking, pledgor-booking, nextFits, any, brings, returns, Agreed, Books-agree}
+use Rattle.accord.specs.Agreement.{after, joined, Reached, opening, secured-call, pledgor-call, secured-booking, pledgor-booking, nextFits, any, returns, Agreement, Books-agree}
+use Rattle.accord.specs.Joint.{Accord-is-kept}
 use Rattle.accord.proofs.Days.{settled-latest}
+use Rattle.accord.proofs.Own.{repeated, opened-home, opened-ranged}
+use Rattle.accord.proofs.Cover.{kept-covered}
+use Rattle.accord.proofs.UnderWay.{hasNew, new-brings, returned-returns, shown-same, shown-both, shown-or}
 use Rattle.accord.proofs.Accord.{passed, secured-fits, pledgor-fits, secured-books, pledgor-books, secured-issues, pledgor-issues}
 
 -- as opened
-
-opened-home : (a : Annex) (ls : List Lot) (k : ℕ) → posts.lotAt (pledgor-opening.opened a ls) k .place ≡ Home
-opened-home a ls k = ⊎-elim (λ h. own h) (λ h. past h) (cases-lt k (length ls)) where
-  own : k < length ls → posts.lotAt (pledgor-opening.opened a ls) k .place ≡ Home
-  own i =
-      let j : k < length (map pledgor-opening.atHome ls) = omega (arith, length-map ls pledgor-opening.atHome) in
-      ap (λ x. x .place) (getD-append-left (map pledgor-opening.atHome ls) (replicate (32 - length ls) posts.noLot) posts.noLot k j ∙ getD-map pledgor-opening.atHome ls k (posts.noLot .lot) posts.noLot i)
-
-  past : length ls ≤ k → posts.lotAt (pledgor-opening.opened a ls) k .place ≡ Home
-  past i = ap (λ x. x .place) (getD-append-right (map pledgor-opening.atHome ls) (replicate (32 - length ls) posts.noLot) (length ls) k posts.noLot (length-map ls pledgor-opening.atHome) i ∙ repeated (32 - length ls) (k - length ls) posts.noLot)
 
 opened-lot : (x : PledgorLot) (a : SecuredLot) → x .place ≡ Home → a ≡ Absent → Standing x [] a []
 opened-lot x a e q = subst (λ b. Standing x [] b []) (sym q) (subst (λ y. Standing (record { place = y; lot = x .lot }) [] Absent []) (sym e) home)
@@ -67,7 +52,8 @@ opened-accord a b ls t n e = record {
   terms = t;
   lots = λ k. opened-lot (posts.lotAt (pledgor-opening.opened b ls) k) (holds.lotAt (secured-opening.opened a) k) (opened-home b ls k) (repeated 32 k Absent);
   days = inl (refl, tt);
-  sound = (securely.opened-ranged a, opened-kept a);
+  kept = ((λ t. absurd (clash t)), (λ t. absurd (clash t)), (λ t. absurd (clash t)));
+  size = length-replicate 32 Absent;
   ranged = opened-ranged b ls n e;
 }
 
@@ -99,122 +85,6 @@ reached-accords (pledgor-call {s = s} {p = p} {forth = xs} {back = ys} c r) = pl
 reached-accords (secured-booking {s = s} {p = p} {forth = xs} {back = ys} m r t) = secured-books s p xs ys m (reached-accords r)
 reached-accords (pledgor-booking {s = s} {p = p} {forth = xs} {back = ys} m r t) = pledgor-books s p xs ys m (reached-accords r)
 
--- what is under way about a lot
-
-hasNew : List Word → Bool
-hasNew [] = false
-hasNew (new x ∷ ws) = true
-hasNew (old ∷ ws) = hasNew ws
-hasNew (returned ∷ ws) = hasNew ws
-hasNew (declined ∷ ws) = hasNew ws
-
-hasReturned : List Word → Bool
-hasReturned [] = false
-hasReturned (new x ∷ ws) = hasReturned ws
-hasReturned (old ∷ ws) = hasReturned ws
-hasReturned (returned ∷ ws) = true
-hasReturned (declined ∷ ws) = hasReturned ws
-
-new-only : (b : Bool) (v : Lot) (ws : List Word) → hasNew (only b (new v) ++ ws) ≡ (b || hasNew ws)
-unfolding hasNew
-new-only true v ws = refl
-new-only false v ws = refl
-
-new-old : (b c : Bool) (v : Lot) (ws : List Word) → hasNew ((only b old ++ only c (new v)) ++ ws) ≡ (c || hasNew ws)
-unfolding hasNew
-new-old true c v ws = new-only c v ws
-new-old false c v ws = new-only c v ws
-
-new-other : (b : Bool) (ws : List Word) → (hasNew (only b old ++ ws) ≡ hasNew ws) × (hasNew (only b returned ++ ws) ≡ hasNew ws) × (hasNew (only b declined ++ ws) ≡ hasNew ws)
-unfolding hasNew
-new-other true ws = (refl, refl, refl)
-new-other false ws = (refl, refl, refl)
-
--- a new lot is one that a Delivery or a Substitute brings
-new-brings : (k : ℕ) (ms : List Message) → hasNew (words k ms) ≡ any (brings k) ms
-unfolding hasNew
-new-brings k [] = refl
-new-brings k (Quiet n e ∷ ms) = new-brings k ms
-new-brings k (Call n e a ∷ ms) = new-brings k ms
-new-brings k (Offer n e a ∷ ms) = new-brings k ms
-new-brings k (Agree n ∷ ms) = new-brings k ms
-new-brings k (Dispute n a ∷ ms) = new-brings k ms
-new-brings k (Resolve n e a ∷ ms) = new-brings k ms
-new-brings k (Delivery n l c f ∷ ms) = new-only (eqb l k) (lotOf c f) (words k ms) ∙ ap (λ z. eqb l k || z) (new-brings k ms)
-new-brings k (Substitute l c f o ∷ ms) = new-old (eqb o k) (eqb l k) (lotOf c f) (words k ms) ∙ ap (λ z. eqb l k || z) (new-brings k ms)
-new-brings k (Ask n l ∷ ms) = new-other (eqb l k) (words k ms) .0 ∙ new-brings k ms
-new-brings k (Return l ∷ ms) = new-other (eqb l k) (words k ms) .1 ∙ new-brings k ms
-new-brings k (Decline l ∷ ms) = new-other (eqb l k) (words k ms) .2 ∙ new-brings k ms
-new-brings k (Satisfied n ∷ ms) = new-brings k ms
-new-brings k (Release n ∷ ms) = new-brings k ms
-
-returned-only : (b : Bool) (ws : List Word) → hasReturned (only b returned ++ ws) ≡ (b || hasReturned ws)
-unfolding hasReturned
-returned-only true ws = refl
-returned-only false ws = refl
-
-returned-other : (b : Bool) (v : Lot) (ws : List Word) → (hasReturned (only b (new v) ++ ws) ≡ hasReturned ws) × (hasReturned (only b old ++ ws) ≡ hasReturned ws) × (hasReturned (only b declined ++ ws) ≡ hasReturned ws)
-unfolding hasReturned
-returned-other true v ws = (refl, refl, refl)
-returned-other false v ws = (refl, refl, refl)
-
-returned-both : (b c : Bool) (v : Lot) (ws : List Word) → hasReturned ((only b old ++ only c (new v)) ++ ws) ≡ hasReturned ws
-unfolding hasReturned
-returned-both true c v ws = returned-other c v ws .0
-returned-both false c v ws = returned-other c v ws .0
-
--- a returned lot is one of which a Return is under way
-returned-returns : (k : ℕ) (ms : List Message) → hasReturned (words k ms) ≡ any (returns k) ms
-unfolding hasReturned
-returned-returns k [] = refl
-returned-returns k (Quiet n e ∷ ms) = returned-returns k ms
-returned-returns k (Call n e a ∷ ms) = returned-returns k ms
-returned-returns k (Offer n e a ∷ ms) = returned-returns k ms
-returned-returns k (Agree n ∷ ms) = returned-returns k ms
-returned-returns k (Dispute n a ∷ ms) = returned-returns k ms
-returned-returns k (Resolve n e a ∷ ms) = returned-returns k ms
-returned-returns k (Delivery n l c f ∷ ms) = returned-other (eqb l k) (lotOf c f) (words k ms) .0 ∙ returned-returns k ms
-returned-returns k (Substitute l c f o ∷ ms) = returned-both (eqb o k) (eqb l k) (lotOf c f) (words k ms) ∙ returned-returns k ms
-returned-returns k (Ask n l ∷ ms) = returned-other (eqb l k) (lotOf 0 0) (words k ms) .1 ∙ returned-returns k ms
-returned-returns k (Return l ∷ ms) = returned-only (eqb l k) (words k ms) ∙ ap (λ z. eqb l k || z) (returned-returns k ms)
-returned-returns k (Decline l ∷ ms) = returned-other (eqb l k) (lotOf 0 0) (words k ms) .2 ∙ returned-returns k ms
-returned-returns k (Satisfied n ∷ ms) = returned-returns k ms
-returned-returns k (Release n ∷ ms) = returned-returns k ms
-
--- the rows of a lot
-
-shown-same : {x : PledgorLot} {a : SecuredLot} → Standing x [] a [] → holds.shown a ≡ posts.shown (x .place) (x .lot)
-shown-same home = refl
-shown-same held = refl
-shown-same owed-back = refl
-shown-same decline-owed = refl
-
-nothing : {A : Type 0} {v w : A} → _≡_ {A = Option A} None (Some v) → _≡_ {A = Option A} (Some w) (Some v)
-nothing e = let z : _≡_ {A = ℕ} 0 1 = cc in let w : ⊥ = omega arith in absurd w
-
-shown-both : {x : PledgorLot} {us ds : List Word} {a : SecuredLot} (v : Lot) → Standing x us a ds → holds.shown a ≡ Some v → posts.shown (x .place) (x .lot) ≡ Some v
-shown-both v home e = e
-shown-both v sent e = nothing e
-shown-both v held e = e
-shown-both v sent-asked e = nothing e
-shown-both v asked e = e
-shown-both v owed-back e = e
-shown-both v decline-owed e = e
-shown-both v back e = nothing e
-shown-both v refused e = e
-
-shown-or : {x : PledgorLot} {us ds : List Word} {a : SecuredLot} → Standing x us a ds → (holds.shown a ≡ posts.shown (x .place) (x .lot)) ⊎ ((hasNew us || hasReturned ds) ≡ true)
-unfolding hasNew hasReturned
-shown-or home = inl refl
-shown-or sent = inr refl
-shown-or held = inl refl
-shown-or sent-asked = inr refl
-shown-or asked = inl refl
-shown-or owed-back = inl refl
-shown-or decline-owed = inl refl
-shown-or back = inr refl
-shown-or refused = inl refl
-
 -- what the accord promises
 
 no-days : (sd pd : Day) → Days sd pd [] [] → sd ≡ pd
@@ -233,7 +103,7 @@ module _ (s : SecuredState) (p : PledgorState) where
   bare : (xs ys : List Message) → xs ≡ [] → ys ≡ [] → Accord s p xs ys → Accord s p [] []
   bare xs ys e q h = subst (λ zs. Accord s p [] zs) q (subst (λ zs. Accord s p zs ys) e h)
 
-  pub accord-agrees : (xs ys : List Message) → Accord s p xs ys → Agreed s p xs ys
+  pub accord-agrees : (xs ys : List Message) → Accord s p xs ys → Agreement s p xs ys
   accord-agrees xs ys h = record {
     terms = h .terms;
     forth-fits = forth-next xs ys h;
@@ -244,8 +114,20 @@ module _ (s : SecuredState) (p : PledgorState) where
     held-posted = λ k v e. shown-both v (h .lots k) e;
     under-way = λ k. subst (λ b. (holds.position s k ≡ posts.position p k) ⊎ ((b || any (returns k) xs) ≡ true)) (new-brings k ys)
         (subst (λ b. (holds.position s k ≡ posts.position p k) ⊎ ((hasNew (words k ys) || b) ≡ true)) (returned-returns k xs) (shown-or (h .lots k)));
-    covered = kept-covered s (h .sound .1);
+    covered = kept-covered s (h .kept);
   }
 
 pub books-agree : Books-agree
 books-agree s p xs ys r = accord-agrees s p xs ys (reached-accords r)
+
+pub joint : Accord-is-kept
+joint = record {
+  opening = opening-accords;
+  secured-issue = λ {s} {t} {p} {forth} {back} c m h e. secured-issues s p forth back h c m t e;
+  pledgor-issue = λ {s} {p} {q} {forth} {back} c m h e. pledgor-issues s p forth back h c m q e;
+  forth-fits = λ {s} {p} {forth} {back} m h. pledgor-fits s p forth back m h;
+  back-fits = λ {s} {p} {forth} {back} m h. secured-fits s p forth back m h;
+  pledgor-booking = λ {s} {p} {forth} {back} m h. pledgor-books s p forth back m h;
+  secured-booking = λ {s} {p} {forth} {back} m h. secured-books s p forth back m h;
+  agrees = λ {s} {p} {forth} {back} h. accord-agrees s p forth back h;
+}

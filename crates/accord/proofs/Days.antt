@@ -1,12 +1,12 @@
 -- The days of the two books, and the notices and answers under way.
-use Prim.Native.Nat.{ℕ, _<_, _≤_}
+use Prim.Native.Nat.{ℕ, _≤_}
 use native.Mathlib.Omega.{arith}
 use mathlib.Core.Path.{_≡_, refl, sym, ap, _∙_, subst}
 use mathlib.Core.Logic.{_⊎_, inl, inr, ⊎-elim}
-use mathlib.Core.Bool.{Bool, true, false, cond, _&&_}
+use mathlib.Core.Bool.{Bool, true, false, _&&_}
 use mathlib.Core.List.{List, [], _∷_, _++_}
-use lib.Dec.{eqb, ltb, leb}
-use Rattle.std.proofs.shelf.Tests.{ltb-true, leb-true, le-leb, and-parts, and-from}
+use lib.Dec.{eqb, ltb}
+use Rattle.std.proofs.shelf.Tests.{ltb-true, leb-true, le-leb, and-parts}
 use borrow.Author.Tests.{clash}
 use Rattle.day.specs.declared.Day.{Day}
 use Rattle.day.specs.declared.DayState.{DayState}

@@ -5,13 +5,14 @@ use mathlib.Core.Bool.{Bool, true, false}
 use mathlib.Core.Logic.{_⊎_}
 use mathlib.Core.List.{List, [], _∷_}
 use lib.Dec.{leb}
+use lib.ListN.{length}
 use Rattle.day.specs.declared.Day.{Day}
 use Rattle.message.specs.declared.Message.{Message}
 use Rattle.message.specs.declared.Message.the-variants.{Quiet, Call, Offer, Agree, Dispute, Resolve, Delivery, Substitute, Ask, Return, Decline, Satisfied, Release}
 use Rattle.secured.specs.declared.state.SecuredState.{SecuredState}
 use Rattle.secured.specs.Bookings.{answerFits, answered}
 use Rattle.secured.specs.Lots as secured
-use Rattle.secured.specs.Sound.{Sound}
+use Rattle.secured.specs.Sound.{Kept}
 use Rattle.pledgor.specs.declared.state.PledgorState.{PledgorState}
 use Rattle.pledgor.specs.Bookings.{noticeFits, told}
 use Rattle.pledgor.specs.Lots as pledgor
@@ -74,5 +75,6 @@ pub record Accord (s : SecuredState) (p : PledgorState) (forth back : List Messa
   pub terms : secured.termsOf s ≡ pledgor.termsOf p
   pub lots : Lots s p forth back
   pub days : Days (s .day) (p .day) forth back
-  pub sound : Sound s
+  pub kept : Kept s
+  pub size : length (s .lots) ≡ 32
   pub ranged : Ranged p

@@ -85,8 +85,8 @@ returns k (Decline l) = false
 returns k (Satisfied n) = false
 returns k (Release n) = false
 
--- what two books promise, with what is under way forth to the pledgor and back to the secured end
-pub record Agreed (s : SecuredState) (p : PledgorState) (forth back : List Message) : Type 0 where
+-- how two books agree, with what is under way forth to the pledgor and back to the secured end
+pub record Agreement (s : SecuredState) (p : PledgorState) (forth back : List Message) : Type 0 where
   -- the terms are equal
   pub terms : secured.Lots.termsOf s ≡ pledgor.Lots.termsOf p
   -- the next message to be booked fits
@@ -106,4 +106,4 @@ pub record Agreed (s : SecuredState) (p : PledgorState) (forth back : List Messa
 
 -- wherever a run leads, the two books agree
 abbrev pub Books-agree : Type 0
-Books-agree = (s : SecuredState) (p : PledgorState) (forth back : List Message) → Reached s p forth back → Agreed s p forth back
+Books-agree = (s : SecuredState) (p : PledgorState) (forth back : List Message) → Reached s p forth back → Agreement s p forth back

@@ -1,3 +1,4 @@
 pub mod Standing
 pub mod Accord
 pub mod Agreement
+pub mod Joint

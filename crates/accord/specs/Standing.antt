@@ -12,7 +12,7 @@ use Rattle.message.specs.declared.Message.{Message}
 use Rattle.message.specs.declared.Message.the-variants.{Quiet, Call, Offer, Agree, Dispute, Resolve, Delivery, Substitute, Ask, Return, Decline, Satisfied, Release}
 use Rattle.secured.specs.Bookings.{lotOf}
 
--- what a message says about one lot: the pledgor, that it is new or old; the secured end, that it is returned or declined
+-- what a message says about one lot: that it is new or old, from the pledgor; returned or declined, from the secured end
 pub data Word : Type 0 where
   new : Lot → Word
   old : Word
@@ -44,7 +44,8 @@ abbrev pub words : ℕ → List Message → List Word
 words k [] = []
 words k (m ∷ ms) = about k m ++ words k ms
 
--- a lot at the pledgor, what is under way about it from there, the lot at the secured end, what is under way about it from there
+-- the nine rows of a lot: its entry at the pledgor, what is under way about it from there, its entry at the secured end,
+-- what is under way about it from there
 pub data Standing : PledgorLot → List Word → SecuredLot → List Word → Type 0 where
   home : {x : Lot} → Standing (record { place = Home; lot = x }) [] Absent []
   sent : {x : Lot} → Standing (record { place = Posted; lot = x }) (new x ∷ []) Absent []

@@ -17,7 +17,7 @@ use Rattle.message.specs.declared.Message.{Message}
 use Rattle.message.specs.Ranges.{unfitOf}
 use Rattle.frame.specs.Layout.{lastNumber}
 use Rattle.link.specs.Fits.{window}
-use Rattle.link.specs.Kept.{Kept, admits, admitsBy, admittedBy, clears, cleared, clearedBy, joined, nextOf}
+use Rattle.link.specs.Kept.{Kept, admits, admitsBy, admittedBy, nextOf}
 
 above : (a b : ℕ) (c : Bool) → leb a b ≡ c → b < a → c ≡ false
 above a b true e h = let z : ⊥ = omega (arith, leb-true a b e) in absurd z
@@ -37,25 +37,19 @@ few k h = ap (λ (c : Bool). cond c (Err refusal.Unacknowledged) (cond (ltb last
 -- a fit message, with a place for it and all numbers given
 pub spent : (k : Kept) (m : Message) → unfitOf m ≡ None → length (k .pending) < window → lastNumber < nextOf k → Err refusal.LastNumber ≡ admits k m
 spent k m u h l = sym (
-  ap (λ (o : Option ℕ). admitsBy o k) u
-  ∙ few k h
-  ∙ ap (λ (c : Bool). cond c (Err refusal.LastNumber) (Ok (nextOf k))) (below lastNumber (nextOf k) (ltb lastNumber (nextOf k)) refl l)
-)
+    ap (λ (o : Option ℕ). admitsBy o k) u
+    ∙ few k h
+    ∙ ap (λ (c : Bool). cond c (Err refusal.LastNumber) (Ok (nextOf k))) (below lastNumber (nextOf k) (ltb lastNumber (nextOf k)) refl l)
+    )
 
 -- a fit message, with a place and a number for it
 pub given : (k : Kept) (m : Message) → unfitOf m ≡ None → length (k .pending) < window → nextOf k ≤ lastNumber → Ok (nextOf k) ≡ admits k m
 given k m u h l = sym (
-  ap (λ (o : Option ℕ). admitsBy o k) u
-  ∙ few k h
-  ∙ ap (λ (c : Bool). cond c (Err refusal.LastNumber) (Ok (nextOf k))) (upto lastNumber (nextOf k) (ltb lastNumber (nextOf k)) refl l)
-)
+    ap (λ (o : Option ℕ). admitsBy o k) u
+    ∙ few k h
+    ∙ ap (λ (c : Bool). cond c (Err refusal.LastNumber) (Ok (nextOf k))) (upto lastNumber (nextOf k) (ltb lastNumber (nextOf k)) refl l)
+    )
 
 -- the link after a message, by the answer
 pub after-answer : (k : Kept) (m : Message) (r : Result ℕ Refusal) → r ≡ admits k m → admittedBy r k m ≡ admittedBy (admits k m) k m
 after-answer k m r e = ap (λ (r : Result ℕ Refusal). admittedBy r k m) e
-
-pub clears-in-range : (k : Kept) (n a : ℕ) → a ≤ nextOf k → Ok tt ≡ clears k n a
-clears-in-range k n a h = sym (ap (λ (c : Bool). cond c (Err (refusal.Acknowledgement n)) (Ok tt)) (upto (nextOf k) a (ltb (nextOf k) a) refl h))
-
-pub cleared-in-range : (k : Kept) (a : ℕ) → a ≤ nextOf k → cleared a k ≡ clearedBy k a
-cleared-in-range k a h = sym (ap (λ (c : Bool). cond c k (cleared a k)) (upto (nextOf k) a (ltb (nextOf k) a) refl h))

@@ -12,7 +12,7 @@ use Rattle.std.specs.declared.option.Option.{Option}
 use Rattle.message.specs.declared.Message.{Message}
 use Rattle.message.specs.Ranges.{unfitOf}
 use Rattle.link.specs.Fits.{isNone, messageFits, allFit, window}
-use Rattle.link.specs.Kept.{Kept, kept, cleared, oldestOf}
+use Rattle.link.specs.Kept.{Kept, kept, forgotten, oldestOf}
 
 pub and-true : (a b : Bool) → a ≡ true → b ≡ true → (a && b) ≡ true
 and-true true true p q = refl
@@ -46,13 +46,10 @@ fit-admit t c m e h f u = ap allFit (take-more-set t c m (omega arith)) ∙ fit-
 pub fit-clear : (t ys : List Message) (c g : ℕ) → length t ≡ window → c ≤ window → g ≤ c → allFit (take c t) ≡ true → ys ≡ drop g t ++ take g t → allFit (take (c - g) ys) ≡ true
 fit-clear t ys c g e h k f y = ap (λ (l : List Message). allFit (take (c - g) l)) y ∙ ap allFit (turned t c g k (omega arith)) ∙ fit-drop g (take c t) f
 
-pub cleared-is : (b x c k : ℕ) (t ys : List Message) → length t ≡ window → c ≤ window → b < k → k ≤ b + length (take c t) → ys ≡ drop (k - b) t ++ take (k - b) t →
-    _≡_ {A = Kept} (record { base = k; pending = take (c - (k - b)) ys; expected = x }) (cleared k (record { base = b; pending = take c t; expected = x }))
-cleared-is b x c k t ys e h l n y =
-    let f = length-front t c e h in
-    ap (λ (z : ℕ). record { base = z; pending = take (c - (k - b)) ys; expected = x }) (omega arith)
-    ∙ ap (λ (z : List Message). record { base = b + (k - b); pending = z; expected = x })
-    (ap (take (c - (k - b))) y ∙ turned t c (k - b) (omega arith) (omega arith))
+pub forgotten-is : (b x c g : ℕ) (t ys : List Message) → length t ≡ window → c ≤ window → g ≤ c → ys ≡ drop g t ++ take g t →
+    _≡_ {A = Kept} (record { base = b + g; pending = take (c - g) ys; expected = x }) (forgotten g (record { base = b; pending = take c t; expected = x }))
+forgotten-is b x c g t ys e h l y =
+    ap (λ (z : List Message). record { base = b + g; pending = z; expected = x }) (ap (take (c - g)) y ∙ turned t c g l (omega arith))
 
 pub oldest-is : (t : List Message) (c : ℕ) (d : Message) → 0 < c → 0 < length t → Some (getD t 0 d) ≡ oldestOf (take c t)
 oldest-is [] c d h k = let z : ⊥ = omega arith in absurd z

@@ -40,9 +40,13 @@ opened = record { base = 1; pending = []; expected = 1 }
 abbrev pub nextOf : Kept → ℕ
 nextOf k = k .base + length (k .pending)
 
+-- the first g messages are forgotten
+abbrev pub forgotten : ℕ → Kept → Kept
+forgotten g k = record { base = k .base + g; pending = drop g (k .pending); expected = k .expected }
+
 -- every number below a is acknowledged
 abbrev pub cleared : ℕ → Kept → Kept
-cleared a k = record { base = k .base + (a - k .base); pending = drop (a - k .base) (k .pending); expected = k .expected }
+cleared a k = forgotten (a - k .base) k
 
 -- the expected number is booked
 abbrev pub awaited : Kept → Kept

@@ -109,7 +109,7 @@ module _ {C St : Type 0} {app : App Message C St} where
           booked-counted = h .booked-counted;
         };
         does = inr (subst (λ (l : List Message). law.Issued app (sideOf s) (record { state = t; base = s .plain .kept .base; pending = s .plain .kept .pending ++ (m ∷ []); expected = s .plain .kept .expected; issued = l; booked = messages (s .booked) }))
-        (sym (map-push (λ (e : Entry). e .message) (s .issued) (record { number = n; message = m }))) (law.issue c m (k .place) (k .number) d));
+            (sym (map-push (λ (e : Entry). e .message) (s .issued) (record { number = n; message = m }))) (law.issue c m (k .place) (k .number) d));
       }
   call-admitted s c m t (Err e) a d x h = record { tidy = h; does = inl refl }
 

@@ -1,6 +1,7 @@
 //! The calls of a link.
+ghost use Prim.Native.Nat.{_≤_};
 ghost use mathlib.Core.Path.{_≡_};
-ghost use Rattle.link.specs.Kept.{admits, admitted, advances, advanced, clears, clearedBy, judges, kept, nextOf, oldestOf, opened, WritesOffer};
+ghost use Rattle.link.specs.Kept.{admits, admitted, advances, advanced, clears, clearedBy, forgotten, judges, kept, nextOf, oldestOf, opened, WritesOffer};
 use crate::state::LinkState;
 use crate::state::Standing;
 use crate::state::WINDOW;
@@ -98,6 +99,16 @@ impl Link {
         }
     }
 
+    // Forgets the first messages, so many of them.
+    fn forget(&mut self, gone: usize)
+        requires { ⌜ gone ≤ now self .state .count ⌝ }
+        ensures { λ _. ⌜ kept (now (self .exit) .state) ≡ forgotten gone (kept (now (self .entry) .state)) ⌝ }
+    {
+        self.state.table.rotate_left(gone);
+        self.state.count -= gone;
+        self.state.base += gone as u64;
+    }
+
     /// Forgets every message with a number below the acknowledgement that the message `number`
     /// carries. Refused by 4 for an acknowledgement above the next number.
     pub fn clear(&mut self, number: u64, acknowledgement: u64) -> Result<(), Refusal>
@@ -107,12 +118,8 @@ impl Link {
         if acknowledgement > self.state.base + self.state.count as u64 {
             return Err(Refusal::Acknowledgement { message: number });
         }
-        if acknowledgement > self.state.base {
-            let gone = (acknowledgement - self.state.base) as usize;
-            self.state.table.rotate_left(gone);
-            self.state.count -= gone;
-            self.state.base = acknowledgement;
-        }
+        let gone = acknowledgement.saturating_sub(self.state.base) as usize;
+        self.forget(gone);
         Ok(())
     }
 
