@@ -2,7 +2,7 @@
 """Cases for the wire format, written from docs/WIRE.md and from nothing else.
 
 Writes crates/vectors_frames/stdin, one case to a line, and crates/vectors_frames/stdout, what the
-program has to answer. The same seed gives the same cases.
+program has to answer. Every run of it makes the same cases.
 """
 import os
 import random
