@@ -36,9 +36,9 @@ expect() {
 
 try notified_once 'let _ = book.notify(finding, row);'
 expect 'a finding that is notified' 'rt: ok, crates proved'
-try set_aside_once 'let _ = (book, row); finding.set_aside();'
+try set_aside_once 'finding.set_aside();'
 expect 'a finding that is set aside' 'rt: ok, crates proved'
-try dropped 'let _ = (book, row, &finding);'
+try dropped 'let _ = finding.day();'
 expect 'a finding that is dropped' 'error\[linear-value-let-go\]'
 try notified_twice 'let _ = book.notify(finding, row); let _ = book.notify(finding, row);'
 expect 'a finding that is notified twice' 'error\[borrow-e0382\]'
