@@ -244,7 +244,7 @@ fn named(rt: &LibcRuntime, step: Step) -> io::Result<()> {
 }
 
 /// Makes the steps of a scenario, if it has any, on two books that are opened on its terms.
-pub(crate) fn agreement(rt: &LibcRuntime, scenario: &Scenario, annex: Annex) -> io::Result<()> {
+pub(crate) fn make_steps(rt: &LibcRuntime, scenario: &Scenario, annex: Annex) -> io::Result<()> {
     if scenario.steps.is_empty() {
         return Ok(());
     }

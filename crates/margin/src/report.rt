@@ -5,7 +5,7 @@ use amounts::SecuredLot;
 use amounts::SecuredLotHolding;
 use annex::Annex;
 use annex::Row;
-use crate::agreement::agreement;
+use crate::agreement::make_steps;
 use crate::frames::first_frame;
 use crate::frames::hex_of;
 use crate::path::Path;
@@ -205,5 +205,5 @@ pub(crate) fn valuation(rt: &LibcRuntime, scenario: &Scenario) -> io::Result<()>
     if let Some(path) = &mut path {
         path.drain(rt)?;
     }
-    agreement(rt, scenario, annex)
+    make_steps(rt, scenario, annex)
 }
