@@ -1,5 +1,7 @@
 //! What holds between the two books while messages are under way. Knows nothing of message numbers, bytes
 //! or carriers: a run is a list of calls and of bookings over two queues.
+#![tactic(auto)]
+
 ghost use Rattle.accord.specs.Agreement.{BooksAgree};
 ghost use Rattle.accord.specs.Joint.{AccordIsKept};
 

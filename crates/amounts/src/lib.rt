@@ -1,5 +1,7 @@
 //! What lots are worth, and what is to be delivered or returned on a day. Knows nothing of days' states,
 //! messages or ends.
+#![tactic(auto)]
+
 pub mod lots;
 pub mod valuing;
 pub mod weighing;

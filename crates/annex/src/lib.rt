@@ -1,5 +1,7 @@
 //! The agreed terms, the rows of a day and the standard schedule, each with the ranges of its numbers.
 //! Knows nothing of lots, messages or ends.
+#![tactic(auto)]
+
 pub mod agreed;
 pub mod row;
 pub mod schedule;

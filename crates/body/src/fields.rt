@@ -2,9 +2,9 @@
 ghost use Rattle.std.specs.Prelude.{◌≡◌, [], ◌∷◌, ◌++◌, length, MatchOption, ◌≢◌};
 ghost use Rattle.std.specs.Int.{w64};
 ghost use Rattle.std.proofs.Common.{of_z};
-ghost use Rattle.bytes.specs.Numbers.{bytes_of};
+ghost use Rattle.octets.specs.Numbers.{bytes_of};
 
-use bytes::{be_i64, be_u32, be_u64};
+use octets::{be_i64, be_u32, be_u64};
 
 pub(crate) fn read_day(fields: &[u8]) -> Option<u32>
     ensures { MatchOption result (length fields.now ≢ 4) (λ d. fields.now ≡ bytes_of 4 d) }

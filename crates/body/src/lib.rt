@@ -1,5 +1,7 @@
 //! The body of a data frame: the first byte is the kind, the rest are the fields of that kind.
 //! Reads and writes one message. Knows nothing of the trailer.
+#![tactic(auto)]
+
 mod fields;
 pub mod read;
 pub mod write;

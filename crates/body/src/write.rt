@@ -2,13 +2,13 @@
 ghost use Rattle.std.specs.Prelude.{◌≡◌, ◌≤◌, [], ◌∷◌, ◌++◌, length};
 ghost use Rattle.std.specs.Int.{w64};
 ghost use Rattle.std.proofs.Common.{of_z};
-ghost use Rattle.bytes.specs.Numbers.{bytes_of};
-ghost use Rattle.bytes.specs.Puts.{Fills, Puts};
+ghost use Rattle.octets.specs.Numbers.{bytes_of};
+ghost use Rattle.octets.specs.Puts.{Fills, Puts};
 ghost use Rattle.body.specs.Laws.{BodiesDiffer};
 ghost use Rattle.message.specs.Bodies.{body_of, fields_of};
 
-use bytes::{i64_bytes, put, u32_bytes, u64_bytes};
 use message::Message;
+use octets::{i64_bytes, put, u32_bytes, u64_bytes};
 
 /// How many bytes the body of the message takes.
 pub fn body_len(message: &Message) -> usize

@@ -1,6 +1,8 @@
 //! What any carrier of frames promises, whoever writes it: the `Carrier` trait over one meaning, with
 //! every fault that a carrier may make named. Holds the plainest carrier, the slip, and the frame in
 //! which a carrier keeps what waits. Knows nothing of what a frame says.
+#![tactic(auto)]
+
 pub mod frame;
 pub mod promise;
 pub mod slip;

@@ -1,5 +1,7 @@
 //! The day in hand at an end: its state, its number and the amount last told of it. Knows nothing of lots,
 //! messages or books.
+#![tactic(auto)]
+
 ghost use Rattle.std.specs.Prelude.{◌≡◌};
 ghost use Rattle.day.specs.Days.{is_ended, is_open, is_settled, no_day};
 

@@ -4,7 +4,7 @@ use Rattle.std.proofs.lemmas.List.{length-take-le}
 use Rattle.std.proofs.lemmas.Bool.{eqb-true, or_cases, cond-false, cond-true, eq-eqb, ne_eqb}
 use Rattle.refusal.specs.declared.Refusal.{Refusal}
 use Rattle.refusal.specs.declared.Refusal.TheVariants.{Trailer, Body}
-use Rattle.bytes.proofs.Fronts.{cut}
+use Rattle.octets.proofs.Fronts.{cut}
 use Rattle.message.specs.declared.Message.{Message}
 use Rattle.message.specs.Bodies.{body_of}
 use Rattle.body.specs.Reading.{ReadsMessage}

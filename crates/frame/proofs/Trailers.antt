@@ -2,8 +2,8 @@
 use Rattle.std.proofs.Common.{◌≡◌, ℕ, ◌+◌, ◌*◌, ◌^◌, ◌<◌, ◌≤◌, Bool, true, false, cond, ◌&&◌, ◌||◌, eqb, List, [], ◌∷◌, ◌++◌, length, get_or, take, drop, Some, None, Option, sym, refl, ap, ◌∙◌, arith}
 use Rattle.std.proofs.lemmas.List.{length-append, take_at, append_cancel_left}
 use Rattle.std.proofs.lemmas.Bool.{eqb-true}
-use Rattle.bytes.specs.Numbers.{bytes_of, value}
-use Rattle.bytes.proofs.Widths.{value_bytes_of}
+use Rattle.octets.specs.Numbers.{bytes_of, value}
+use Rattle.octets.proofs.Widths.{value_bytes_of}
 use Rattle.message.specs.Ranges.{unless}
 use Rattle.message.proofs.Within.{unless_none}
 use Rattle.frame.specs.declared.layout.Trailer.{Trailer}

@@ -3,8 +3,8 @@ use Rattle.std.proofs.Common.{◌≡◌, ℕ, ◌+◌, ◌<◌, ◌≤◌, Bool,
 use Rattle.std.proofs.lemmas.List.{take_at}
 use Rattle.refusal.specs.declared.Refusal.{Refusal}
 use Rattle.refusal.specs.declared.Refusal.TheVariants as refusal
-use Rattle.bytes.specs.Puts.{Fills}
-use Rattle.bytes.proofs.Puts.{filled}
+use Rattle.octets.specs.Puts.{Fills}
+use Rattle.octets.proofs.Puts.{filled}
 use Rattle.message.specs.declared.Message.{Message}
 use Rattle.message.specs.Ranges.{unfit_of}
 use Rattle.message.specs.Bodies.{body_of}

@@ -1,11 +1,11 @@
 //! The trailer: its fields as they lie, their widths and ranges. Every number of the layout stands
 //! here once.
 ghost use Rattle.std.specs.Prelude.{◌≡◌, ◌^◌, ◌<◌, length};
-ghost use Rattle.bytes.specs.Numbers.{bytes_of};
-ghost use Rattle.bytes.specs.Puts.{Fills};
+ghost use Rattle.octets.specs.Numbers.{bytes_of};
+ghost use Rattle.octets.specs.Puts.{Fills};
 ghost use Rattle.frame.specs.Layout.{acknowledgement_fits, number_fits, number_width, trailer_bytes, trailer_length, TypedTrailer, unfit_trailer};
 
-use bytes::{be_u16, be_u32, put, u16_bytes, u32_bytes};
+use octets::{be_u16, be_u32, put, u16_bytes, u32_bytes};
 
 /// How many bytes the message number takes, and the acknowledgement likewise.
 pub const NUMBER_WIDTH: usize = 4;

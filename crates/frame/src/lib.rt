@@ -1,5 +1,7 @@
 //! Frames: a body and a trailer that says what the frame is. Reads a frame that someone lends and
 //! writes one into a lent buffer. Knows nothing of carriers, ends and books.
+#![tactic(auto)]
+
 use message::Message;
 
 pub mod layout;

@@ -1,6 +1,8 @@
 //! The law of a link between two ends, over any run: numbered messages, faulty channels, and any
 //! book above. Definitions and proofs; the functions carry one law each and compute nothing. Knows
 //! nothing of bytes, of the messages and of the annex.
+#![tactic(auto)]
+
 ghost use Rattle.law.specs.Laws.{ARoundCanBeMade, ActsOnWrittenFrames, BookingsBeginWhatWasIssued, QueuesKeepARelation, RoundsLeaveNothingUnacknowledged, WaitingFramesAreTrue};
 
 /// What one end booked begins what the other issued, and is all of it once nothing is

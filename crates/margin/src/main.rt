@@ -1,4 +1,6 @@
 //! `margin`: reads a scenario and tells what is to be called or offered back on each of its days.
+#![tactic(auto)]
+
 mod agreement;
 mod frames;
 mod path;
@@ -8,6 +10,7 @@ mod text;
 use anyhow::anyhow;
 use frames::{bytes_of, explain};
 use report::valuation;
+use std::process::ExitCode;
 use std::{env, fs, io};
 use text::{HELP, found, unreadable};
 
@@ -27,7 +30,8 @@ fn value(rt: &HostRuntime, path: Option<String>) -> anyhow::Result<()> {
             if let Some(line) = found(error, text.as_str()) {
                 eprintln!(rt; "margin: found '{line}'")?;
             }
-            Err(unreadable(rt.alloc(), error)?.into())
+            let said = unreadable(rt.alloc(), error)?;
+            Err(anyhow!("{said}"))
         }
     }
 }
@@ -56,12 +60,12 @@ fn run(rt: &HostRuntime) -> anyhow::Result<()> {
     }
 }
 
-fn main(rt: HostRuntime) -> anyhow::Result<()> {
+fn main(rt: HostRuntime) -> ExitCode {
     match run(&rt) {
-        Ok(()) => Ok(()),
+        Ok(()) => ExitCode::SUCCESS,
         Err(error) => {
-            eprintln!(rt; "margin: {error}")?;
-            Err(error)
+            let _ = eprintln!(rt; "margin: {error}");
+            ExitCode::FAILURE
         }
     }
 }

@@ -3,9 +3,9 @@ use Rattle.std.proofs.Common.{◌≡◌, ℕ, ◌+◌, ◌^◌, ◌<◌, ◌≤�
 use Rattle.std.proofs.lemmas.Int.{to_z-of_z, ints}
 use Rattle.message.specs.declared.Message.{Message}
 use Rattle.message.specs.declared.Message.TheVariants.{Quiet, Call, Offer, Agree, Dispute, Resolve, Delivery, Substitute, Ask, Return, Decline, Satisfied, Release}
-use Rattle.bytes.specs.Numbers.{bytes_of, value}
+use Rattle.octets.specs.Numbers.{bytes_of, value}
 use Rattle.message.specs.Bodies.{body_of, Typed, Malformed}
-use Rattle.bytes.proofs.Widths.{value_bytes_of}
+use Rattle.octets.proofs.Widths.{value_bytes_of}
 
 abbrev message_from : ℕ → List ℕ → Message
 message_from k fs =

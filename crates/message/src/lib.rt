@@ -1,5 +1,7 @@
 //! What the two ends tell each other: the kinds of message, which end sends each, and the ranges of
 //! their fields. Knows nothing of frames, ends and books.
+#![tactic(auto)]
+
 ghost use Rattle.std.specs.Prelude.{◌≡◌};
 ghost use Rattle.message.specs.Kinds.{from_secured, kind_of};
 ghost use Rattle.message.specs.Ranges.{unfit_day, unfit_lot, unfit_money, unfit_of};

@@ -1,5 +1,7 @@
 //! Every reason for which a call or a frame is refused: a closed list, each with a number, with words
 //! and, for a frame fault, with what it tells about the frame. Knows nothing of what raises it.
+#![tactic(auto)]
+
 ghost use Rattle.std.specs.Prelude.{◌≡◌};
 ghost use Rattle.refusal.specs.Numbers.{layer_of, message_of, number_of, position_of, words_for};
 

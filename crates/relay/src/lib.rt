@@ -1,5 +1,7 @@
 //! Passing a frame on from one carrier to another, whatever carriers they are: proved once, from what
 //! every carrier promises.
+#![tactic(auto)]
+
 ghost use Rattle.relay.specs.Relays.{Found, Relayed, RelaysStand};
 
 use carrier::Carrier;

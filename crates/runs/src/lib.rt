@@ -1,5 +1,7 @@
 //! Runs of two ends and the two carriers of bytes between them, and the law that every run obeys,
 //! for any book. Definitions and proofs; no end, no turn.
+#![tactic(auto)]
+
 ghost use Rattle.std.specs.Prelude.{◌≡◌};
 ghost use Rattle.runs.specs.Laws.{ARoundCanBeMade, BookingsBeginWhatWasIssued, NoTurnMeetsABrokenFrame, QueuesKeepARelation, RoundsLeaveNothingUnacknowledged, SettlesAfter, WaitingFramesAreTrue, rounds_enough};
 

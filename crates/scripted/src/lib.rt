@@ -1,5 +1,7 @@
 //! A carrier whose faults stand in a script: each entry names a call by its count, a fault and the
 //! position that it strikes. The same script and the same calls give the same frames every time.
+#![tactic(auto)]
+
 mod line;
 pub mod script;
 pub mod scripted;

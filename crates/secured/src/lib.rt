@@ -1,5 +1,7 @@
 //! The book of the secured end: the day in hand, the row last notified, the lots it holds and what was
 //! delivered and freed. Knows nothing of message numbers, bytes or carriers.
+#![tactic(auto)]
+
 pub mod book;
 pub mod booking;
 pub mod calls;

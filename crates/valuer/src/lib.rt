@@ -1,4 +1,6 @@
 //! Where a day's exposure and prices come from. Knows nothing of what they are used for.
+#![tactic(auto)]
+
 pub mod figures;
 pub mod panels;
 pub mod reading;

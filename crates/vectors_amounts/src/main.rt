@@ -1,5 +1,7 @@
 //! Runs cases of amounts, schedule, sheets and panels from standard input, and tells what came of each.
 //! The cases and what they should give come from tools/amounts_cases.py.
+#![tactic(auto)]
+
 mod cases;
 
 use cases::answer;

@@ -1,5 +1,7 @@
 //! Runs lists of calls and bookings on two books from standard input, and tells after each what was answered
 //! and both books whole. The cases and what they should give come from tools/books_cases.py.
+#![tactic(auto)]
+
 mod books;
 mod commands;
 mod words;

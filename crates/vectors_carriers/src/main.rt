@@ -1,5 +1,7 @@
 //! Runs carrier cases from the input, one call a line, and prints what each call answers and what then
 //! waits. `tools/carriers.py` writes the cases and, from the rules alone, what must be printed.
+#![tactic(auto)]
+
 mod cases;
 
 use anyhow::anyhow;

@@ -2,6 +2,8 @@
 //! frame says, or number, layer, message and position of its refusal. `write` takes a buffer's
 //! length and every field that a message can have, `acknowledge` a length and an acknowledgement;
 //! both tell the answer and what the buffer, all EE before, then holds.
+#![tactic(auto)]
+
 use frame::{Frame, Packet, read_frame, read_packet, write_acknowledgement, write_data};
 use message::Message;
 use refusal::{Layer, Refusal};

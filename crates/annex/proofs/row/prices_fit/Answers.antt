@@ -7,7 +7,7 @@ pub returns-then-not-price-fits : goal.returns-then-not-price-fits
 returns-then-not-price-fits c = every_step price_fits c.args.prices.now c.loop-price.price-index None (omega arith) c.loop-price.invariant false (sym c.if-not-price-fits.ensures)
 
 pub loop-price-preserved : goal.loop-price-preserved
-loop-price-preserved c = every_step price_fits c.args.prices.now c.loop-price.price-index None (omega arith) c.loop-price.invariant true (sym c.if-not-price-fits.ensures)
+loop-price-preserved c = every_step price_fits c.args.prices.now c.loop-price.price-index None (omega arith) c.loop-price.invariant true (sym c.if-not-price_fits.ensures)
 
 pub returns : goal.returns
 returns c = every_end price_fits c.args.prices.now c.loop-price.price-index (omega arith) c.loop-price.invariant

@@ -1,5 +1,5 @@
 use Rattle.std.proofs.Common.{rules}
-use Rattle.bytes.specs.Numbers.{bytes_of}
+use Rattle.octets.specs.Numbers.{bytes_of}
 use Rattle.body.proofs.write.body_len.Goals as goal
 
 pub returns-in-Quiet : goal.returns-in-Quiet

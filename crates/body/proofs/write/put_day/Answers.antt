@@ -1,4 +1,4 @@
-use Rattle.bytes.proofs.Puts.{same_bytes}
+use Rattle.octets.proofs.Puts.{same_bytes}
 use Rattle.body.proofs.write.put_day.Goals as goal
 
 pub returns : goal.returns

@@ -1,5 +1,5 @@
 use Rattle.std.proofs.lemmas.Int.{to_z-of_z}
-use Rattle.bytes.proofs.Puts.{join, same_bytes}
+use Rattle.octets.proofs.Puts.{join, same_bytes}
 use Rattle.body.proofs.write.put_day_exposure.Goals as goal
 
 pub returns : goal.returns

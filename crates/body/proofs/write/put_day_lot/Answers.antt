@@ -1,4 +1,4 @@
-use Rattle.bytes.proofs.Puts.{join}
+use Rattle.octets.proofs.Puts.{join}
 use Rattle.body.proofs.write.put_day_lot.Goals as goal
 
 pub returns : goal.returns

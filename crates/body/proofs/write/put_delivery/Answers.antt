@@ -1,4 +1,4 @@
-use Rattle.bytes.proofs.Puts.{join, same_bytes}
+use Rattle.octets.proofs.Puts.{join, same_bytes}
 use Rattle.body.proofs.write.put_delivery.Goals as goal
 
 pub returns : goal.returns

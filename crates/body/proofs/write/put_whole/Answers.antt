@@ -1,5 +1,5 @@
 use Rattle.std.proofs.Common.{◌≡◌, ℕ, List, [], ◌∷◌, ap, arith}
-use Rattle.bytes.proofs.Puts.{join, same_bytes}
+use Rattle.octets.proofs.Puts.{join, same_bytes}
 use Rattle.body.proofs.write.put_whole.Goals as goal
 
 pub returns : goal.returns

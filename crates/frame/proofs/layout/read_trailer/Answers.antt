@@ -1,5 +1,5 @@
 use Rattle.std.proofs.Common.{◌≡◌, List, ◌∷◌, ◌++◌, ◌∙◌, rules}
-use Rattle.bytes.proofs.Fronts.{whole}
+use Rattle.octets.proofs.Fronts.{whole}
 use Rattle.frame.proofs.layout.read_trailer.Goals as goal
 
 pub returns : goal.returns

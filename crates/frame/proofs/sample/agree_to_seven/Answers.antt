@@ -1,5 +1,5 @@
 use Rattle.std.proofs.Common.{◌≡◌, refl, ◌∙◌}
-use Rattle.bytes.specs.Numbers.{bytes_of}
+use Rattle.octets.specs.Numbers.{bytes_of}
 use Rattle.message.specs.declared.Message.TheVariants.{Agree}
 use Rattle.frame.specs.declared.Packet.TheVariants.{Data}
 use Rattle.frame.specs.Laws.{agree_to_seven}

@@ -6,7 +6,7 @@ pub returns-then-not-in-range : goal.returns-then-not-in-range
 returns-then-not-in-range c = bad c.args.script.now c.loop-entry.entry-index _ c.loop-entry-test.true (sym c.in_range.ensures ∙ c.if-not-in-range.true) c.loop-entry.invariant
 
 pub loop-entry-preserved : goal.loop-entry-preserved
-loop-entry-preserved c = good c.args.script.now c.loop-entry.entry-index _ c.loop-entry-test.true (sym c.in_range.ensures ∙ c.if-not-in-range.false) c.loop-entry.invariant
+loop-entry-preserved c = good c.args.script.now c.loop-entry.entry-index _ c.loop-entry-test.true (sym c.in_range.ensures ∙ c.if-not-in_range.false) c.loop-entry.invariant
 
 pub returns : goal.returns
 returns c = ended c.args.script.now c.loop-entry.entry-index c.loop-entry-test.false c.loop-entry.invariant

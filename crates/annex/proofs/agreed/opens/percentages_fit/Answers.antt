@@ -7,7 +7,7 @@ pub returns-then-not-percentage-fits : goal.returns-then-not-percentage-fits
 returns-then-not-percentage-fits c = every_step percentage_fits c.args.percentages.now c.loop-percentage.percentage-index 0 (omega arith) c.loop-percentage.invariant false (sym c.if-not-percentage-fits.ensures)
 
 pub loop-percentage-preserved : goal.loop-percentage-preserved
-loop-percentage-preserved c = every_step percentage_fits c.args.percentages.now c.loop-percentage.percentage-index 0 (omega arith) c.loop-percentage.invariant true (sym c.if-not-percentage-fits.ensures)
+loop-percentage-preserved c = every_step percentage_fits c.args.percentages.now c.loop-percentage.percentage-index 0 (omega arith) c.loop-percentage.invariant true (sym c.if-not-percentage_fits.ensures)
 
 pub returns : goal.returns
 returns c = every_end percentage_fits c.args.percentages.now c.loop-percentage.percentage-index (omega arith) c.loop-percentage.invariant

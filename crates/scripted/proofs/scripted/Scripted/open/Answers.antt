@@ -7,5 +7,5 @@ use Rattle.scripted.proofs.scripted.Scripted.open.Goals as goal
 
 pub returns : goal.returns
 returns c =
-    let fit : opens c.args.places c.args.script.items ≡ true = ap (opens c.args.places) (sym c.as-slice.ensures.value) ∙ sym c.if-not-may-open.ensures in
+    let fit : opens c.args.places c.args.script.items ≡ true = ap (opens c.args.places) (sym c.as_slice.ensures.value) ∙ sym c.if-not-may_open.ensures in
     record { fit = fit; state = ap (λ (ws : List Frame). record { waiting = map held ws; places = c.args.places; script = c.args.script.items; count = 0 }) c.empty.ensures.items; faults = opened c.args.places c.args.script.items fit }

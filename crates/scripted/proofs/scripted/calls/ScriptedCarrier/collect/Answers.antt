@@ -5,8 +5,8 @@ use Rattle.scripted.proofs.scripted.calls.ScriptedCarrier.collect.Goals as goal
 
 pub returns-in-None : goal.returns-in-None
 returns-in-None c =
-    let e = collect_none c.args.self.now c.strike.new.self c.take-first.new.self c.args.buffer.now c.strike.ensures c.in-None.ensures in
-    record { rule = gathers (state_of c.args.self.now) c.args.buffer.now None (state_of c.take-first.new.self) c.args.buffer.now (omega arith) e.0 e.1; exact = e }
+    let e = collect_none c.args.self.now c.strike.new.self c.take_first.new.self c.args.buffer.now c.strike.ensures c.in-None.ensures in
+    record { rule = gathers (state_of c.args.self.now) c.args.buffer.now None (state_of c.take_first.new.self) c.args.buffer.now (omega arith) e.0 e.1; exact = e }
 
 pub returns-in-ok-fill : goal.returns-in-ok-fill
 returns-in-ok-fill c =

@@ -10,6 +10,6 @@ returns-then-not-has-room c = record { rule = (inr (refl, c.in-ok-frame.ensures.
 
 pub returns : goal.returns
 returns c =
-    let fits = c.in-ok-frame.ensures in
-    let e = struck _ c.strike.new.self c.strike.ensures ∙ ap (counted (state_of c.args.self.now)) (joined_end (line_items c.args.self.now.waiting) _ c.in-ok-frame.frame c.args.frame.now c.push.ensures.items fits.1) in
-    record { rule = joins (state_of c.args.self.now) c.args.frame.now (state_of c.strike.new.self) fits.0 (free c.args.self.now (sym {b = ltb c.args.self.now.waiting.len c.args.self.now.places} c.if-not-has-room.ensures)) e; exact = e }
+    let fits = c.in_ok-frame.ensures in
+    let e = struck _ c.strike.new.self c.strike.ensures ∙ ap (counted (state_of c.args.self.now)) (joined_end (line_items c.args.self.now.waiting) _ c.in_ok-frame.frame c.args.frame.now c.push.ensures.items fits.1) in
+    record { rule = joins (state_of c.args.self.now) c.args.frame.now (state_of c.strike.new.self) fits.0 (free c.args.self.now (sym {b = ltb c.args.self.now.waiting.len c.args.self.now.places} c.if-not-has_room.ensures)) e; exact = e }

@@ -1,9 +1,9 @@
 -- Fields that a slice pattern read.
 use Rattle.std.proofs.Common.{◌≡◌, ℕ, zero, suc, ◌+◌, ◌-◌, ◌<◌, ◌≤◌, List, [], ◌∷◌, ◌++◌, length, get_or, take, drop, sym, refl, ap, ◌∙◌, w8, Fits}
 use Rattle.std.specs.List.{AllByRecursion as All}
-use Rattle.bytes.specs.Numbers.{bytes_of, value}
-use Rattle.bytes.proofs.Fronts.{from, whole}
-use Rattle.bytes.proofs.Widths.{bytes_of_value}
+use Rattle.octets.specs.Numbers.{bytes_of, value}
+use Rattle.octets.proofs.Fronts.{from, whole}
+use Rattle.octets.proofs.Widths.{bytes_of_value}
 
 module _ (xs : List ℕ) (typed : (i : ℕ) → Fits w8 (get_or xs i 0)) where
   under : (i n : ℕ) → All (λ b. b < 256) (from i n xs)

@@ -1,6 +1,6 @@
 use Rattle.std.proofs.Common.{rules}
-use Rattle.bytes.specs.Numbers.{bytes_of}
-use Rattle.bytes.proofs.be_u16.Goals as goal
+use Rattle.octets.specs.Numbers.{bytes_of}
+use Rattle.octets.proofs.be_u32.Goals as goal
 
 pub returns : goal.returns
 unfolding bytes_of

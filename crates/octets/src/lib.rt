@@ -1,10 +1,12 @@
 //! Numbers of a fixed width, the most significant byte first, and bytes put into a lent buffer.
 //! Knows nothing of messages and frames.
+#![tactic(auto)]
+
 ghost use Rattle.std.specs.Prelude.{◌≡◌, [], ◌∷◌, length, MatchOption, ◌≢◌};
 ghost use Rattle.std.specs.Int.{w64};
 ghost use Rattle.std.proofs.Common.{of_z};
-ghost use Rattle.bytes.specs.Numbers.{bytes_of};
-ghost use Rattle.bytes.specs.Puts.{Puts};
+ghost use Rattle.octets.specs.Numbers.{bytes_of};
+ghost use Rattle.octets.specs.Puts.{Puts};
 
 /// The number that two bytes write.
 pub fn be_u16(a: u8, b: u8) -> u16

@@ -1,7 +1,7 @@
 -- One write after another.
 use Rattle.std.proofs.Common.{◌≡◌, ℕ, ◌+◌, ◌≤◌, List, ◌++◌, length, take, drop, sym, ap, ◌∙◌, subst, le_refl, zero-add, arith}
 use Rattle.std.proofs.lemmas.List.{append_assoc, length-append, take-append-drop}
-use Rattle.bytes.specs.Puts.{Wrote, Fills}
+use Rattle.octets.specs.Puts.{Wrote, Fills}
 
 pub after : {a r s : ℕ} {xs ys b0 b1 b2 : List ℕ} → Wrote a xs r b0 b1 → Wrote r ys s b1 b2 → Wrote a (xs ++ ys) s b0 b2
 after {a} {r} {s} {xs} {ys} {b0} {b1} {b2} p q =

@@ -3,7 +3,7 @@ use Rattle.std.proofs.Common.{◌≡◌, ℕ, zero, suc, ◌+◌, ◌*◌, ◌/�
 use native.Mathlib.Nat.{pow-zero, one-le-pow, mod-one}
 use lib.Arith.{digits_lt, digits_div, digits_mod, mod-mul}
 use Rattle.std.specs.List.{AllByRecursion as All}
-use Rattle.bytes.specs.Numbers.{bytes_of, value}
+use Rattle.octets.specs.Numbers.{bytes_of, value}
 
 pub base_pos : (w : ℕ) → 0 < 256 ^ w
 base_pos w = one-le-pow w 256 (zero-lt-suc 255)

@@ -1,0 +1,9 @@
+use Rattle.std.proofs.Common.{◌≡◌, ℕ, arith, rules}
+use Rattle.octets.specs.Numbers.{value}
+use Rattle.octets.proofs.Fronts.{from}
+use Rattle.octets.proofs.Fields.{read_whole}
+use Rattle.octets.proofs.be_u64.Goals as goal
+
+pub returns : goal.returns
+unfolding value
+returns c = read_whole c.args.bytes.now c.ok.bytes 8 c.from-be-bytes.result (search rules) (omega arith)
