@@ -22,7 +22,7 @@ pub enum Outcome {
 
 // Collects into the buffer, and knows that what was found lies within it.
 fn gather<I: Carrier>(incoming: &mut I, buffer: &mut [u8]) -> Result<Option<usize>, Refusal>
-    ensures { Found (meaning incoming.old) buffer.old result (meaning incoming.new) buffer.new }
+    ensures { Found (I.meaning incoming.old) buffer.old result (I.meaning incoming.new) buffer.new }
 {
     incoming.collect(buffer)
 }

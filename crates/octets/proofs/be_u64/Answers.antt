@@ -6,4 +6,4 @@ use Rattle.octets.proofs.be_u64.Goals as goal
 
 pub returns : goal.returns
 unfolding value
-returns c = read_whole c.args.bytes.now c.ok.bytes 8 c.from-be-bytes.result (search rules) (omega arith)
+returns c = read_whole c.args.bytes.now c.type_inv.bytes 8 c.from_be_bytes.result (search rules) (omega arith)

@@ -6,12 +6,12 @@ use Rattle.amounts.proofs.valuing.lot_value.Goals as goal
 pub worth-requires : goal.worth-requires
 worth-requires c =
     record {
-      face-fits = (in_range c.args.lot.now c.requires.lot-fits).face_to;
-      price-fits = price_at c.args.row.now c.requires.prices_fit c.args.lot.now.class;
-      percentage-fits = (agreed c.args.terms.now c.requires.terms-fit).percentage_to c.args.lot.now.class;
+      face_fits = (in_range c.args.lot.now c.requires.lot_fits).face_to;
+      price_fits = price_at c.args.row.now c.requires.prices_fit c.args.lot.now.class;
+      percentage_fits = (agreed c.args.terms.now c.requires.terms_fit).percentage_to c.args.lot.now.class;
     }
 
 pub returns : goal.returns
 returns c =
-    let b = lot_value_within c.args.terms.now c.args.row.now c.requires.terms-fit c.requires.prices_fit c.args.lot.now in
+    let b = lot_value_within c.args.terms.now c.args.row.now c.requires.terms_fit c.requires.prices_fit c.args.lot.now in
     record { value = c.worth.ensures; bound = omega arith }

@@ -6,5 +6,5 @@ use Rattle.body.proofs.fields.read_day_lot.Goals as goal
 
 pub returns : goal.returns
 returns c =
-    let d = c.be-u32.ensures in
+    let d = c.be_u32.ensures in
     whole c.args.fields.now 5 (search rules) ∙ simp (← d)

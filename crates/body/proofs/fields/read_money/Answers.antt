@@ -8,6 +8,6 @@ use Rattle.body.proofs.fields.read_money.Goals as goal
 pub returns : goal.returns
 returns c =
     let f : SFits w64 c.in-Some.exposure = search rules in
-    cut c.args.fields.now _ _ 12 c.in-Some.ensures c.in-Some-be-u64.ensures
-    ∙ append_assoc (bytes_of 4 c.in-Some.day) (bytes_of 8 (of_z w64 c.in-Some.exposure)) (bytes_of 8 c.in-Some-be-u64.amount)
+    cut c.args.fields.now _ _ 12 c.in-Some.ensures c.in-Some-be_u64.ensures
+    ∙ append_assoc (bytes_of 4 c.in-Some.day) (bytes_of 8 (of_z w64 c.in-Some.exposure)) (bytes_of 8 c.in-Some-be_u64.amount)
     ∙ simp to_z-of_z

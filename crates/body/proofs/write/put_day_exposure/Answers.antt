@@ -5,4 +5,4 @@ use Rattle.body.proofs.write.put_day_exposure.Goals as goal
 pub returns : goal.returns
 returns c =
     let f = c.ranges.exposure in
-    join c.put-day-at.ensures (same_bytes c.put.ensures.0 (simp to_z-of_z at c.i64-bytes.ensures))
+    join c.put_day-at.ensures (same_bytes c.put.ensures.0 (simp to_z-of_z at c.i64_bytes.ensures))

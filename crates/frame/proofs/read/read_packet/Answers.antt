@@ -3,4 +3,4 @@ use Rattle.frame.proofs.Written.{writes_again}
 use Rattle.frame.proofs.read.read_packet.Goals as goal
 
 pub returns : goal.returns
-returns c = record { reads = c.read-whole.ensures; once = reads_once; back = reads_back; again = writes_again }
+returns c = record { reads = c.read_whole.ensures; once = reads_once; back = reads_back; again = writes_again }

@@ -12,4 +12,4 @@ unfolding bytes_of
 figure = refl
 
 pub returns : goal.returns
-returns c = record { bytes = c.seventeen-bytes.ensures; frame = c.seventeen-bytes.ensures ∙ figure }
+returns c = record { bytes = c.seventeen_bytes.ensures; frame = c.seventeen_bytes.ensures ∙ figure }

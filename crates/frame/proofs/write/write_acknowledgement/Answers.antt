@@ -3,4 +3,4 @@ use Rattle.frame.proofs.Written.{writes_once, written_reads_back}
 use Rattle.frame.proofs.write.write_acknowledgement.Goals as goal
 
 pub returns : goal.returns
-returns c = record { writes = c.put-acknowledgement.ensures; once = writes_once; back = written_reads_back; differ = frames_differ }
+returns c = record { writes = c.put_acknowledgement.ensures; once = writes_once; back = written_reads_back; differ = frames_differ }

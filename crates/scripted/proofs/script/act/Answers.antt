@@ -7,10 +7,10 @@ use Rattle.scripted.proofs.script.act.Goals as goal
 pub returns-then-at-len : goal.returns-then-at-len
 returns-then-at-len c = record { items = past c.args.entry.fault c.args.places c.args.entry.position (line_items c.args.waiting.now) (omega (arith, line_length c.args.waiting.now)); room = search rules }
 
-pub returns-then-has-room : goal.returns-then-has-room
-returns-then-has-room c =
+pub returns-then-has_room : goal.returns-then-has_room
+returns-then-has_room c =
     record {
-      items = c.push.ensures.items ∙ repeated c.args.entry.fault c.args.places c.args.entry.position (line_items c.args.waiting.now) _ c.in-Repeat.is (omega (arith, line_length c.args.waiting.now, ltb-true c.args.waiting.now.len c.args.places (sym c.if-has-room.ensures))) (omega (arith, line_length c.args.waiting.now)) c.at-frame.ensures;
+      items = c.push.ensures.items ∙ repeated c.args.entry.fault c.args.places c.args.entry.position (line_items c.args.waiting.now) _ c.in-Repeat.is (omega (arith, line_length c.args.waiting.now, ltb-true c.args.waiting.now.len c.args.places (sym c.if-has_room.ensures))) (omega (arith, line_length c.args.waiting.now)) c.at-frame.ensures;
       room = search rules;
     }
 

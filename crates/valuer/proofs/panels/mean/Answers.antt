@@ -7,8 +7,8 @@ use Rattle.std.proofs.lemmas.List.Sums.{fold_more}
 use Rattle.valuer.proofs.Steps.{quote_range, quotes_few, mean_of_lem}
 use Rattle.valuer.proofs.panels.mean.Goals as goal
 
-pub overflow-add-sum : goal.overflow-add-sum
-overflow-add-sum c =
+pub overflow_add-sum : goal.overflow_add-sum
+overflow_add-sum c =
     let i = c.loop-quote.quote-index in
     let qs = c.args.quotes.now in
     let few = quotes_few qs c.requires in
@@ -34,9 +34,9 @@ returns c =
     let e = take_all i qs (omega arith) in
     let s = ap (fold ◌+ℤ◌ (pos 0)) e in
     let n : to_z w64 (length qs) ≡ pos (length qs) = to_z_pos w64 (length qs) (omega arith) in
-    let f : SFits w64 c.floor-quotient.result = search rules in
-    let t = to_z-of_z w64 c.floor-quotient.result f in
-    let m = mean_of_lem qs (eqb-false (length qs) 0 (sym c.if-is-empty.ensures)) in
+    let f : SFits w64 c.floor_quotient.result = search rules in
+    let t = to_z-of_z w64 c.floor_quotient.result f in
+    let m = mean_of_lem qs (eqb-false (length qs) 0 (sym c.if-is_empty.ensures)) in
     let v = c.loop-quote.invariant.0 in
-    let d = c.floor-quotient.ensures in
+    let d = c.floor_quotient.ensures in
     cc

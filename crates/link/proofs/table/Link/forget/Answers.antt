@@ -2,12 +2,12 @@ use Rattle.std.proofs.Common.{◌-◌, ◌∙◌, arith, rules}
 use Rattle.link.proofs.Tables.{fit_clear, forgotten_is}
 use Rattle.link.proofs.table.Link.forget.Goals as goal
 
-pub invariant-of-self : goal.invariant-of-self
-invariant-of-self c =
+pub invariant_of-self : goal.invariant_of-self
+invariant_of-self c =
     let s = c.args.self.now in
     let l = s.state in
     let p = c.requires in (
-      c.rotate-left.ensures.len ∙ s.whole,
+      c.rotate_left.ensures.len ∙ s.whole,
       (
         omega arith,
         (
@@ -18,7 +18,7 @@ invariant-of-self c =
               s.awaits,
               (
                 s.bounded,
-                (fit_clear l.table c.rotate-left.new.self l.count c.args.gone s.whole s.room c.requires s.fit c.rotate-left.ensures.after, tt),
+                (fit_clear l.table c.rotate_left.new.self l.count c.args.gone s.whole s.room c.requires s.fit c.rotate_left.ensures.after, tt),
               ),
             ),
           ),
@@ -30,4 +30,4 @@ pub returns : goal.returns
 returns c =
     let s = c.args.self.now in
     let l = s.state in
-    forgotten_is l.base l.expected l.count c.args.gone l.table c.rotate-left.new.self s.whole s.room c.requires c.rotate-left.ensures.after
+    forgotten_is l.base l.expected l.count c.args.gone l.table c.rotate_left.new.self s.whole s.room c.requires c.rotate_left.ensures.after

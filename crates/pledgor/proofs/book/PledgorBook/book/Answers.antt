@@ -3,7 +3,7 @@ use Rattle.pledgor.specs.Sound.{Ranged}
 use Rattle.pledgor.proofs.Ranges.{booked_ranged}
 use Rattle.pledgor.proofs.book.PledgorBook.book.Goals as goal
 
-pub invariant-of-self : goal.invariant-of-self
-invariant-of-self c =
+pub invariant_of-self : goal.invariant_of-self
+invariant_of-self c =
     let e = c.args.self.now in
     (subst Ranged (sym c.book.ensures.after) (booked_ranged e.state e.ranged c.args.message), tt)

@@ -12,6 +12,6 @@ returns-in-Called c =
     let r = c.args.row.now in
     let e = eq-eqb r.day p.day.number c.if-row-self.false in
     let s : is_called p.day.state ≡ true = ap is_called c.in-Called.is in
-    let o : c.own-amount.result ≡ due_amount (terms_of p) c.args.exposure (value_by p r) = search rules in
-    let a = c.answer-with.ensures ∙ ap (answer_of p) o in
-    answering_called p r c.args.exposure c.answer-with.result e s a
+    let o : c.own_amount.result ≡ due_amount (terms_of p) c.args.exposure (value_by p r) = search rules in
+    let a = c.answer_with.ensures ∙ ap (answer_of p) o in
+    answering_called p r c.args.exposure c.answer_with.result e s a

@@ -4,8 +4,8 @@ use Rattle.secured.proofs.Cover.{kept_covered}
 use Rattle.secured.proofs.Ranges.{value_within}
 use Rattle.secured.proofs.book.SecuredBook.uncovered.Goals as goal
 
-pub less-value-requires : goal.less-value-requires
-less-value-requires c =
+pub less_value-requires : goal.less_value-requires
+less_value-requires c =
     let b = c.args.self.now in
     let a = agreed c.terms.result c.terms.ensures.1 in
     let e = exposure_range b.state.exposure b.ranged.2 in

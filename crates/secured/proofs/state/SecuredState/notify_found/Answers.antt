@@ -10,6 +10,6 @@ returns c =
     let r = c.args.row.now in
     let w = c.args.weighing.now in
     let e = eq-eqb f.day r.day c.if-finding-row.false in
-    let k : same_notice f.notice w.notice ≡ true = sym c.if-not-same-notice.ensures in
+    let k : same_notice f.notice w.notice ≡ true = sym c.if-not-same_notice.ensures in
     let m : c.telling.result ≡ telling r.day w.exposure w.notice = search rules in
     notifying_found c.args.self.now f r w c.telling.result c.noticed.result e k m c.noticed.ensures

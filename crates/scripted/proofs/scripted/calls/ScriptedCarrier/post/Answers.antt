@@ -5,8 +5,8 @@ use Rattle.scripted.specs.State.{counted}
 use Rattle.scripted.proofs.Strikes.{free, full, joined_end, joins, struck}
 use Rattle.scripted.proofs.scripted.calls.ScriptedCarrier.post.Goals as goal
 
-pub returns-then-not-has-room : goal.returns-then-not-has-room
-returns-then-not-has-room c = record { rule = (inr (refl, c.in-ok-frame.ensures.0, full c.args.self.now (sym {b = ltb c.args.self.now.waiting.len c.args.self.now.places} c.if-not-has-room.ensures)), refl); exact = refl }
+pub returns-then-not-has_room : goal.returns-then-not-has_room
+returns-then-not-has_room c = record { rule = (inr (refl, c.in_ok-frame.ensures.0, full c.args.self.now (sym {b = ltb c.args.self.now.waiting.len c.args.self.now.places} c.if-not-has_room.ensures)), refl); exact = refl }
 
 pub returns : goal.returns
 returns c =
