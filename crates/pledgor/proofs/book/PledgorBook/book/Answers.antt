@@ -6,4 +6,4 @@ use Rattle.pledgor.proofs.book.PledgorBook.book.Goals as goal
 pub invariant_of-self : goal.invariant_of-self
 invariant_of-self c =
     let e = c.args.self.now in
-    (subst Ranged (sym c.book.ensures.after) (booked_ranged e.state e.ranged c.args.message), tt)
+    record { ranged = subst Ranged (sym c.book.ensures.after) (booked_ranged e.state e.ranged c.args.message) }

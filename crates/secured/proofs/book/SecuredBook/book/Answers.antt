@@ -7,4 +7,4 @@ pub invariant_of-self : goal.invariant_of-self
 invariant_of-self c =
     let e = c.args.self.now in
     let s = subst Sound (sym c.book.ensures.after) (booked_sound e.state e.ranged e.kept c.args.message) in
-    (s.0, (s.1, tt))
+    record { ranged = s.0; kept = s.1 }

@@ -1,4 +1,5 @@
-use Rattle.std.proofs.Common.{◌≡◌, true, sym, rules, eq-eqb}
+use Rattle.std.proofs.Common.{◌≡◌, true, w64, SFits, sym, rules, eq-eqb}
+use Rattle.std.proofs.lemmas.Int.{to_z-of_z}
 use Rattle.secured.specs.Calls.{telling}
 use Rattle.secured.specs.Weighs.{same_notice}
 use Rattle.secured.proofs.Sound.{notifying_found}
@@ -11,5 +12,6 @@ returns c =
     let w = c.args.weighing.now in
     let e = eq-eqb f.day r.day c.if-finding-row.false in
     let k : same_notice f.notice w.notice ≡ true = sym c.if-not-same_notice.ensures in
-    let m : c.telling.result ≡ telling r.day w.exposure w.notice = search rules in
+    let fits : SFits w64 w.exposure = search rules in
+    let m : c.telling.result ≡ telling r.day w.exposure w.notice = simp to_z-of_z at c.telling.ensures in
     notifying_found c.args.self.now f r w c.telling.result c.noticed.result e k m c.noticed.ensures
