@@ -6,25 +6,15 @@ pub invariant_of-self : goal.invariant_of-self
 invariant_of-self c =
     let s = c.args.self.now in
     let l = s.state in
-    let p = c.requires in (
-      c.rotate_left.ensures.len ∙ s.whole,
-      (
-        omega arith,
-        (
-          omega arith,
-          (
-            omega arith,
-            (
-              s.awaits,
-              (
-                s.bounded,
-                (fit_clear l.table c.rotate_left.new.self l.count c.args.gone s.whole s.room c.requires s.fit c.rotate_left.ensures.after, tt),
-              ),
-            ),
-          ),
-        ),
-      ),
-    )
+    record {
+      whole = c.rotate_left.ensures.len ∙ s.whole;
+      room = omega arith;
+      started = omega arith;
+      ended = omega arith;
+      awaits = s.awaits;
+      bounded = s.bounded;
+      fit = fit_clear l.table c.rotate_left.new.self l.count c.args.gone s.whole s.room c.requires s.fit c.rotate_left.ensures.after;
+    }
 
 pub returns : goal.returns
 returns c =
