@@ -12,7 +12,6 @@ use Rattle.amounts.specs.declared.lots.SecuredLot.TheVariants.{Absent, Held, Owe
 use Rattle.amounts.specs.declared.weighing.Notice.{Notice}
 use Rattle.amounts.specs.declared.weighing.Notice.TheVariants as notice
 use Rattle.amounts.specs.Amounts.{due_amount}
-use Rattle.day.specs.declared.Day.{Day}
 use Rattle.day.specs.declared.DayState.{DayState}
 use Rattle.day.specs.declared.DayState.TheVariants as day
 use Rattle.day.specs.Days.{day_in, is_called, is_closing, is_disputed, is_ended, is_offered, is_open, is_released}

@@ -25,7 +25,7 @@ use Rattle.pledgor.specs.Bookings as pledgor
 use Rattle.pledgor.specs.Calls as pledgor_calls
 use Rattle.pledgor.specs.Lots as posts
 use Rattle.pledgor.specs.Opening as pledgor-opening
-use Rattle.accord.specs.Standing.{words, Standing, home, back}
+use Rattle.accord.specs.Standing.{words, Standing, home}
 use Rattle.accord.specs.Accord.{Accord, Days}
 use Rattle.accord.specs.Agreement.{after, joined, Reached, opening, secured_call, pledgor_call, secured_booking, pledgor_booking, next_fits, any, returns, Agreement, BooksAgree}
 use Rattle.accord.specs.Joint.{AccordIsKept}

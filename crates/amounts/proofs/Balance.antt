@@ -1,10 +1,9 @@
 -- The laws of the amounts of a day.
-use Rattle.std.proofs.Common.{◌≡◌, ℕ, ◌+◌, ◌-◌, ◌<◌, ◌≤◌, Bool, true, false, cond, leb, ◌⊎◌, ℤ, pos, negsuc, ◌-ℤ◌, ◌≤ℤ◌, ◌<ℤ◌, sym, refl, ap, ◌∙◌, inl, inr, arith, leb-false, leb-true}
+use Rattle.std.proofs.Common.{◌≡◌, ℕ, ◌+◌, Bool, true, false, cond, leb, ◌⊎◌, ℤ, pos, negsuc, ◌-ℤ◌, ◌≤ℤ◌, ◌<ℤ◌, sym, refl, ap, ◌∙◌, inl, inr, arith, leb-false, leb-true}
 use Rattle.std.proofs.lemmas.Int.{ints}
 use Rattle.annex.specs.declared.terms.Terms.{Terms}
-use Rattle.amounts.specs.declared.weighing.Notice.{Notice}
 use Rattle.amounts.specs.declared.weighing.Notice.TheVariants.{Quiet, Call, Offer}
-use Rattle.amounts.specs.Amounts.{natural, adjusted, credit_support, delivery_amount, return_amount, notice_of, amounts_of, uncovered, Balanced, Covered}
+use Rattle.amounts.specs.Amounts.{natural, adjusted, credit_support, delivery_amount, return_amount, amounts_of, uncovered, Balanced, Covered}
 
 pub natural_below : (z : ℤ) → z <ℤ pos 0 → natural z ≡ 0
 natural_below (pos n) h = omega (arith, ints)

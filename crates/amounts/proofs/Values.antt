@@ -1,5 +1,5 @@
 -- The ranges behind the tests, and the bounds of a Value and of V.
-use Rattle.std.proofs.Common.{◌≡◌, ℕ, ◌+◌, ◌*◌, ◌/◌, ◌<◌, ◌≤◌, Bool, true, false, cond, ◌&&◌, ltb, leb, List, [], ◌∷◌, length, get_or, take, Some, None, Option, sym, refl, ap, ◌∙◌, arith, ltb-true, leb-true}
+use Rattle.std.proofs.Common.{◌≡◌, ℕ, ◌+◌, ◌*◌, ◌<◌, ◌≤◌, true, ltb, leb, List, length, get_or, take, Some, None, Option, sym, refl, ap, ◌∙◌, arith, ltb-true, leb-true}
 use Rattle.std.proofs.lemmas.Nat.{mul-le, div_below}
 use Rattle.std.proofs.lemmas.List.Sums.{sum_by_more}
 use Rattle.std.proofs.ByRecursion.{sum_by_le}
@@ -8,7 +8,7 @@ use Rattle.annex.specs.declared.row.Row.{Row}
 use Rattle.annex.specs.declared.terms.Terms.{Terms}
 use Rattle.annex.specs.Every.{every}
 use Rattle.annex.specs.Row.{price_fits}
-use Rattle.annex.specs.Terms.{terms_fit, percentage_fits, within}
+use Rattle.annex.specs.Terms.{terms_fit, within}
 use Rattle.annex.proofs.Tests.{every_get_d, every_at, every_all}
 use Rattle.annex.proofs.Ranges.{agreed}
 use Rattle.amounts.specs.declared.lots.Lot.{Lot}

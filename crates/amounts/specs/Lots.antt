@@ -1,5 +1,5 @@
 -- The range of a lot, and which lots count.
-use Rattle.std.specs.Prelude.{ℕ, Bool, true, ◌&&◌, List, length, Some, None, Option, nat_le, nat_lt}
+use Rattle.std.specs.Prelude.{Bool, true, ◌&&◌, List, length, Some, None, Option, nat_le, nat_lt}
 use Rattle.annex.specs.Every.{every}
 use Rattle.annex.specs.Terms.{within}
 use Rattle.amounts.specs.declared.lots.Lot.{Lot}

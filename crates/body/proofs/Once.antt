@@ -1,10 +1,10 @@
 -- Reading a body has one answer.
-use Rattle.std.proofs.Common.{◌≡◌, ℕ, ◌⊎◌, List, Some, None, Ok, Err, Option, Result, sym, ap, ◌∙◌, subst, inl, inr, arith}
+use Rattle.std.proofs.Common.{◌≡◌, ℕ, List, Some, None, Ok, Err, Option, sym, ap, ◌∙◌, subst, inl, inr}
 use Rattle.refusal.specs.declared.Refusal.{Refusal}
 use Rattle.refusal.specs.declared.Refusal.TheVariants.{Body}
 use Rattle.message.specs.declared.Message.{Message}
 use Rattle.message.specs.Ranges.{unfit_of}
-use Rattle.message.specs.Bodies.{body_of, Typed, Malformed}
+use Rattle.message.specs.Bodies.{body_of, Malformed}
 use Rattle.message.proofs.Within.{clash, typed}
 use Rattle.message.proofs.Inverse.{same_message, well_formed}
 use Rattle.body.specs.Reading.{Unread, ReadsMessage}

@@ -1,11 +1,10 @@
 -- Reading has one answer, and a frame that is fit to send reads as itself.
-use Rattle.std.proofs.Common.{◌≡◌, ℕ, ◌+◌, ◌^◌, ◌<◌, ◌≤◌, true, ◌⊎◌, List, [], ◌∷◌, ◌++◌, length, Some, None, Ok, Err, Option, Result, sym, refl, ap, ◌∙◌, subst, inl, inr, arith}
+use Rattle.std.proofs.Common.{◌≡◌, ℕ, ◌+◌, ◌^◌, ◌<◌, ◌≤◌, true, ◌⊎◌, List, [], ◌++◌, length, None, Ok, Err, Result, sym, refl, ap, ◌∙◌, subst, inl, inr, arith}
 use Rattle.std.proofs.lemmas.List.{length-append}
 use Rattle.std.proofs.lemmas.Bool.{eq-eqb}
 use Rattle.refusal.specs.declared.Refusal.{Refusal}
 use Rattle.refusal.specs.declared.Refusal.TheVariants as refusal
 use Rattle.message.specs.declared.Message.{Message}
-use Rattle.message.specs.Ranges.{unfit_of}
 use Rattle.message.specs.Bodies.{body_of}
 use Rattle.message.proofs.Within.{clash, typed, upper}
 use Rattle.message.proofs.Inverse.{same_message, body_length}
@@ -15,7 +14,7 @@ use Rattle.frame.specs.declared.Frame.TheVariants as frame
 use Rattle.frame.specs.declared.Packet.{Packet}
 use Rattle.frame.specs.declared.Packet.TheVariants.{Data, Acknowledgement}
 use Rattle.frame.specs.declared.layout.Trailer.{Trailer}
-use Rattle.frame.specs.Layout.{acknowledgement_fits, alone_tag, alone_trailer, data_tag, last_number, longest_frame, trailer_bytes, trailer_length, TypedTrailer, unfit_trailer}
+use Rattle.frame.specs.Layout.{acknowledgement_fits, alone_trailer, longest_frame, trailer_bytes, trailer_length, TypedTrailer, unfit_trailer}
 use Rattle.frame.specs.Packets.{BodyUnfit, PartUnfit, Reads, ReadsFrame, Refused, Sendable, Splits, trailer_of, written}
 use Rattle.frame.specs.Laws.{FramesDiffer, FramesReadBack, FramesReadOnce, ReadsBack, ReadsOnce, Said, data_with, said, said_by}
 use Rattle.frame.proofs.Trailers.{length_trailer, same_parts}

@@ -1,5 +1,5 @@
 -- What reading the parts of a frame gives.
-use Rattle.std.proofs.Common.{◌≡◌, ℕ, ◌+◌, ◌-◌, ◌<◌, ◌≤◌, Bool, true, false, cond, ◌&&◌, ◌||◌, eqb, ◌⊎◌, List, [], ◌∷◌, ◌++◌, length, take, drop, Some, None, Ok, Err, sym, refl, ap, ◌∙◌, subst, inl, inr, arith}
+use Rattle.std.proofs.Common.{◌≡◌, ℕ, ◌+◌, ◌-◌, ◌<◌, ◌≤◌, List, [], ◌++◌, length, take, drop, Some, None, Ok, Err, sym, refl, ap, ◌∙◌, inl, inr, arith}
 use Rattle.std.proofs.lemmas.List.{length-take-le}
 use Rattle.std.proofs.lemmas.Bool.{eqb-true, or_cases, cond-false, cond-true, eq-eqb, ne_eqb}
 use Rattle.refusal.specs.declared.Refusal.{Refusal}
@@ -11,7 +11,7 @@ use Rattle.body.specs.Reading.{ReadsMessage}
 use Rattle.frame.specs.declared.Packet.TheVariants.{Data, Acknowledgement}
 use Rattle.frame.specs.declared.layout.Trailer as layout
 use Rattle.frame.specs.Layout.{alone_tag, data_tag, longest_frame, trailer_bytes, trailer_length, TypedTrailer, unfit_trailer}
-use Rattle.frame.specs.Packets.{Splits, Refused, Reads, written}
+use Rattle.frame.specs.Packets.{Splits, Refused, Reads}
 use Rattle.frame.proofs.Trailers.{fit}
 
 module _ (xs : List ℕ) (t : layout.Trailer) (low : trailer_length ≤ length xs) (high : length xs ≤ longest_frame)

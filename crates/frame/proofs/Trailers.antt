@@ -1,10 +1,9 @@
 -- A trailer back from its bytes, and what a fit one is.
-use Rattle.std.proofs.Common.{◌≡◌, ℕ, ◌+◌, ◌*◌, ◌^◌, ◌<◌, ◌≤◌, Bool, true, false, cond, ◌&&◌, ◌||◌, eqb, List, [], ◌∷◌, ◌++◌, length, get_or, take, drop, Some, None, Option, sym, refl, ap, ◌∙◌, arith}
+use Rattle.std.proofs.Common.{◌≡◌, ℕ, ◌+◌, ◌*◌, true, ◌||◌, eqb, List, ◌++◌, length, get_or, take, drop, None, sym, refl, ap, ◌∙◌, arith}
 use Rattle.std.proofs.lemmas.List.{length-append, take_at, append_cancel_left}
 use Rattle.std.proofs.lemmas.Bool.{eqb-true}
 use Rattle.octets.specs.Numbers.{bytes_of, value}
 use Rattle.octets.proofs.Widths.{value_bytes_of}
-use Rattle.message.specs.Ranges.{unless}
 use Rattle.message.proofs.Within.{unless_none}
 use Rattle.frame.specs.declared.layout.Trailer.{Trailer}
 use Rattle.frame.specs.Layout.{acknowledgement_fits, alone_tag, data_tag, number_fits, number_width, trailer_bytes, trailer_length, TypedTrailer, unfit_trailer, version_byte}

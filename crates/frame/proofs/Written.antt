@@ -1,5 +1,5 @@
 -- What writing leaves, and that it has one answer.
-use Rattle.std.proofs.Common.{◌≡◌, ℕ, ◌+◌, ◌<◌, ◌≤◌, Bool, true, false, ◌⊎◌, List, ◌++◌, length, take, drop, Some, None, Ok, Err, Result, sym, refl, ap, ◌∙◌, subst, inl, inr, zero-add, arith}
+use Rattle.std.proofs.Common.{◌≡◌, ℕ, ◌+◌, ◌≤◌, List, ◌++◌, length, take, drop, Some, None, Ok, Err, sym, refl, ap, ◌∙◌, subst, inl, inr, arith}
 use Rattle.std.proofs.lemmas.List.{take_at}
 use Rattle.refusal.specs.declared.Refusal.{Refusal}
 use Rattle.refusal.specs.declared.Refusal.TheVariants as refusal
@@ -12,8 +12,7 @@ use Rattle.message.proofs.Within.{clash}
 use Rattle.body.proofs.Once.{same_some}
 use Rattle.frame.specs.declared.Packet.{Packet}
 use Rattle.frame.specs.declared.Packet.TheVariants.{Data, Acknowledgement}
-use Rattle.frame.specs.declared.layout.Trailer.{Trailer}
-use Rattle.frame.specs.Layout.{acknowledgement_fits, data_trailer, longest_frame, trailer_bytes, trailer_length, TypedTrailer, unfit_trailer}
+use Rattle.frame.specs.Layout.{data_trailer, longest_frame, trailer_bytes, trailer_length, TypedTrailer, unfit_trailer}
 use Rattle.frame.specs.Packets.{Reads, Sendable, trailer_of, Unwritten, Writes, written}
 use Rattle.frame.specs.Laws.{WritesAgain, WritesOnce, WrittenReadsBack}
 use Rattle.frame.proofs.Trailers.{fit}

@@ -1,5 +1,5 @@
 -- The trailer of a frame: its bytes and its ranges. Every number of the layout stands here once.
-use Rattle.std.specs.Prelude.{◌≡◌, ℕ, ◌+◌, ◌*◌, ◌^◌, ◌<◌, Bool, cond, ◌||◌, List, ◌∷◌, ◌++◌, None, Option, ◌==◌}
+use Rattle.std.specs.Prelude.{ℕ, ◌+◌, ◌*◌, ◌^◌, ◌<◌, Bool, cond, ◌||◌, List, ◌∷◌, ◌++◌, None, Option, ◌==◌}
 use Rattle.octets.specs.Numbers.{bytes_of}
 use Rattle.message.specs.Ranges.{within, unless}
 use Rattle.frame.specs.declared.layout.Trailer.{Trailer}

@@ -1,12 +1,10 @@
 -- Turns in which no fault act happens: a frame moves one place nearer in every pair of turns.
-use Rattle.std.proofs.Common.{◌≡◌, ℕ, zero, suc, ◌+◌, ◌-◌, ◌<◌, ◌≤◌, T, ◌⊎◌, List, [], ◌∷◌, ◌++◌, length, drop, sym, refl, ap, ◌∙◌, subst, inl, inr, arith, length-drop}
+use Rattle.std.proofs.Common.{◌≡◌, ℕ, zero, suc, ◌+◌, ◌<◌, ◌≤◌, T, List, [], ◌∷◌, ◌++◌, length, refl, arith}
 use native.Mathlib.Decide.{dec_lt}
 use mathlib.Core.Option.{Option, none, some}
-use Rattle.law.specs.Link.{App, Frame, message, alone, ack_of, Chan, End, next, clear, book, offer, oldest, Acts, still, acted, Faulted, faulted, Posted, full, joined, Collected, nothing, first, Heard, silent, declined, acknowledged, accepted, misfit, dropped, Turn, turn}
-use Rattle.law.specs.Laws.{All, At, Upto}
-use Rattle.law.proofs.Lists.{length_join}
+use Rattle.law.specs.Link.{App, Frame, message, alone, ack_of, Chan, End, next, offer, oldest, still, acted, Faulted, faulted, Posted, full, joined, Collected, nothing, first, Heard, silent, declined, acknowledged, accepted, misfit, dropped, Turn, turn}
+use Rattle.law.specs.Laws.{All, Upto}
 use Rattle.law.proofs.Channels.{Given}
-use Rattle.law.proofs.Half.{Half, next_is, below_next}
 
 pub data Take {M : Type 0} : List (Frame M) → Option (Frame M) → List (Frame M) → Type 0 where
   take_none : Take [] none []

@@ -1,7 +1,7 @@
 -- What every call of a channel keeps: a property of all waiting frames, the places, and that the frames fit them.
-use Rattle.std.proofs.Common.{◌≡◌, ℕ, zero, suc, ◌+◌, ◌-◌, ◌<◌, ◌≤◌, List, [], ◌∷◌, ◌++◌, length, refl, arith}
+use Rattle.std.proofs.Common.{ℕ, ◌≤◌, List, length, arith}
 use mathlib.Core.Option.{Option, none, some}
-use Rattle.law.specs.Link.{Frame, Chan, Takes, Act, lose, copy, move, Acts, still, acted, Faulted, faulted, Posted, full, joined, Collected, nothing, first}
+use Rattle.law.specs.Link.{Frame, Chan, Act, lose, copy, move, Acts, still, acted, Faulted, faulted, Posted, full, joined, Collected, nothing, first}
 use Rattle.law.specs.Laws.{All}
 use Rattle.law.proofs.Lists.{all_takes, all_gives, all_join, length_takes, length_join}
 

@@ -1,7 +1,7 @@
 -- What waits in the channels of a reached world, by the invariant of both directions.
-use Rattle.std.proofs.Common.{ℕ, ◌+◌, ◌≤◌, arith}
+use Rattle.std.proofs.Common.{◌≤◌, arith}
 use mathlib.Core.Option.{some}
-use Rattle.law.specs.Link.{Frame, Chan, Collected, End, World, ack_of, next}
+use Rattle.law.specs.Link.{Frame, Chan, Collected, End, ack_of, next}
 use Rattle.law.specs.Laws.{Truthful, Upto, WaitingFramesAreTrue}
 use Rattle.law.proofs.Channels.{all_collected}
 use Rattle.law.proofs.Half.{below_next}

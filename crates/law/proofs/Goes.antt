@@ -1,11 +1,11 @@
 -- A round can always be made: the law over rounds speaks of something.
-use Rattle.std.proofs.Common.{◌≡◌, ℕ, zero, suc, ◌+◌, ◌-◌, ◌*◌, ◌<◌, ◌≤◌, Bool, true, false, T, List, [], ◌∷◌, ◌++◌, length, refl, arith}
+use Rattle.std.proofs.Common.{◌≡◌, ℕ, ◌<◌, ◌≤◌, Bool, true, false, T, List, [], ◌∷◌, ◌++◌, length, arith}
 use native.Mathlib.Decide.{dec_lt, ℕ_discrete}
 use mathlib.Core.Option.{Option, none, some}
-use Rattle.law.specs.Link.{App, Frame, message, alone, ack_of, Chan, End, next, offer, still, faulted, Posted, full, joined, Collected, nothing, first, Heard, silent, declined, acknowledged, accepted, misfit, dropped, Turn, turn, World, Reached, Round, round}
+use Rattle.law.specs.Link.{App, Frame, message, alone, ack_of, Chan, End, next, offer, still, faulted, Posted, full, joined, Collected, nothing, first, Heard, silent, declined, acknowledged, accepted, misfit, dropped, Turn, turn, round}
 use Rattle.law.specs.Laws.{ARoundCanBeMade}
 use Rattle.law.proofs.Channels.{Fit}
-use Rattle.law.proofs.Runs.{Both, swap, both_turn, Inv, inv}
+use Rattle.law.proofs.Runs.{both_turn, inv}
 
 module _ {M : Type 0} where
   collects : (ws : List (Frame M)) (p g : ℕ) → (x : Option (Frame M)) × (d : Chan M) × Collected (record { waiting = ws; places = p; faults = g }) x d

@@ -1,10 +1,10 @@
 -- One direction of the link, as an invariant: from the sender's messages to what the receiver booked.
-use Rattle.std.proofs.Common.{◌≡◌, ℕ, zero, suc, ◌+◌, ◌-◌, ◌<◌, ◌≤◌, List, [], ◌∷◌, ◌++◌, length, drop, sym, refl, ap, ◌∙◌, subst, arith, length-drop}
-use mathlib.Core.Option.{Option, none, some}
+use Rattle.std.proofs.Common.{◌≡◌, ℕ, suc, ◌+◌, ◌-◌, ◌≤◌, List, [], ◌∷◌, ◌++◌, length, drop, sym, refl, ap, ◌∙◌, subst, arith, length-drop}
+use mathlib.Core.Option.{Option}
 use Rattle.std.proofs.lemmas.List.{drop-drop, drop-append-le}
-use Rattle.law.specs.Link.{App, Frame, message, alone, ack_of, Chan, End, next, clear, book, offer, oldest, Issued, issue, Heard, silent, declined, acknowledged, accepted, misfit, dropped, Turn, turn, Posted, Collected}
+use Rattle.law.specs.Link.{App, Frame, message, alone, Chan, End, oldest, Heard, silent, declined, acknowledged, accepted, misfit, dropped, Turn, turn}
 use Rattle.law.specs.Laws.{All, At, Carries, Upto}
-use Rattle.law.proofs.Lists.{all_map, all_join, at_more, at_drop, Starts, starts_next, starts_more, starts_length, length_join}
+use Rattle.law.proofs.Lists.{all_map, at_more, at_drop, Starts, starts_next, starts_more, starts_length, length_join}
 use Rattle.law.proofs.Channels.{all_posted, all_collected, Given}
 
 pub record Half {M : Type 0} (base : ℕ) (pending issued : List M) (expected : ℕ) (booked : List M) (there back : List (Frame M)) : Type 0 where

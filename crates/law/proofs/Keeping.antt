@@ -1,6 +1,6 @@
 -- What rounds keep and lower; and rounds in which what is to be booked next fits before every turn.
-use Rattle.std.proofs.Common.{◌≡◌, ℕ, zero, suc, ◌+◌, ◌-◌, ◌*◌, ◌<◌, ◌≤◌, List, [], ◌∷◌, ◌++◌, length, sym, refl, ap, ◌∙◌, arith}
-use Rattle.law.specs.Link.{App, Chan, End, Turn, World, Reached, stepped, secured_turns, pledgor_turns, Round, round, Rounds, done, again}
+use Rattle.std.proofs.Common.{◌≡◌, ℕ, suc, ◌≤◌, length, refl, ap, ◌∙◌, arith}
+use Rattle.law.specs.Link.{App, Chan, End, Turn, World, Reached, stepped, secured_turns, pledgor_turns, round, Rounds, done, again}
 use Rattle.law.specs.Laws.{Fitting}
 use Rattle.law.proofs.Runs.{Both, swap, both_turn, fewer_turn, Inv}
 use Rattle.law.proofs.Calm.{faults_in, faults_out, places_in, places_out, base_turn, issued_turn}

@@ -1,5 +1,5 @@
 -- Fault acts on written frames are the written forms of fault acts on frames.
-use Rattle.std.proofs.Common.{◌≡◌, ℕ, zero, suc, ◌+◌, ◌<◌, ◌≤◌, List, [], ◌∷◌, ◌++◌, map, length, sym, refl, ap, subst, arith}
+use Rattle.std.proofs.Common.{◌≡◌, ℕ, suc, List, [], ◌∷◌, map, length, sym, refl, ap, subst, arith}
 use Rattle.law.specs.Link.{Takes, here, there, Act, lose, copy, move, Acts, still, acted}
 use Rattle.law.specs.Laws.{ActsOnWrittenFrames}
 

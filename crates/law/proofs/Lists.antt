@@ -1,5 +1,5 @@
 -- Lists: a property of all elements, the element at a place, a list that another starts with.
-use Rattle.std.proofs.Common.{◌≡◌, ℕ, zero, suc, ◌+◌, ◌-◌, ◌<◌, ◌≤◌, List, [], ◌∷◌, ◌++◌, length, drop, sym, refl, ap, ◌∙◌, le_of_suc-le-suc, not-suc-le-zero, arith}
+use Rattle.std.proofs.Common.{◌≡◌, ℕ, zero, suc, ◌≤◌, List, [], ◌∷◌, ◌++◌, length, drop, sym, refl, ap, le_of_suc-le-suc, not-suc-le-zero, arith}
 use Rattle.law.specs.Link.{Takes, here, there}
 use Rattle.law.specs.Laws.{All, At, Prefix}
 

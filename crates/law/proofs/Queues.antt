@@ -1,6 +1,6 @@
 -- A relation that issuing and booking keep over two queues holds over every run of the link.
-use Rattle.std.proofs.Common.{◌≡◌, ℕ, zero, suc, ◌+◌, ◌<◌, ◌≤◌, T, List, [], ◌∷◌, ◌++◌, length, drop, sym, refl, ap, ◌∙◌, subst, arith}
-use mathlib.Core.Option.{Option, none, some}
+use Rattle.std.proofs.Common.{◌≡◌, ℕ, zero, suc, T, List, [], ◌∷◌, length, drop, sym, ap, subst, arith}
+use mathlib.Core.Option.{Option}
 use Rattle.std.proofs.lemmas.List.{drop-append-le}
 use Rattle.law.specs.Link.{App, Frame, Chan, End, Issued, issue, Heard, silent, declined, acknowledged, accepted, misfit, dropped, Turn, turn, World, Step, refuses, secured_issues, pledgor_issues, secured_turns, pledgor_turns, Reached, opened, stepped}
 use Rattle.law.specs.Laws.{At, Between, Carries, Fitting, Joint, QueuesKeepARelation}

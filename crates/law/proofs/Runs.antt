@@ -1,8 +1,8 @@
 -- The invariant of both directions together, over every step of a run; and what it says of the lists.
-use Rattle.std.proofs.Common.{◌≡◌, ℕ, zero, suc, ◌+◌, ◌-◌, ◌<◌, ◌≤◌, List, [], ◌∷◌, ◌++◌, length, drop, refl, ap, arith, length-drop}
-use mathlib.Core.Option.{Option, none, some}
-use Rattle.law.specs.Link.{App, Frame, Chan, End, fresh, empty, Issued, issue, Heard, silent, declined, acknowledged, accepted, misfit, dropped, Turn, turn, World, Step, refuses, secured_issues, pledgor_issues, secured_turns, pledgor_turns, Reached, opened, stepped}
-use Rattle.law.specs.Laws.{Agreed, BookingsBeginWhatWasIssued}
+use Rattle.std.proofs.Common.{◌≡◌, ℕ, ◌-◌, ◌≤◌, List, [], length, refl, ap, arith, length-drop}
+use mathlib.Core.Option.{Option}
+use Rattle.law.specs.Link.{App, Frame, Chan, End, Issued, issue, Heard, silent, declined, acknowledged, accepted, misfit, dropped, Turn, turn, World, Step, refuses, secured_issues, pledgor_issues, secured_turns, pledgor_turns, Reached, opened, stepped}
+use Rattle.law.specs.Laws.{BookingsBeginWhatWasIssued}
 use Rattle.law.proofs.Lists.{length_join, starts_prefix, starts_all}
 use Rattle.law.proofs.Channels.{Fit, fit_posted, fit_collected}
 use Rattle.law.proofs.Half.{Half, Way, next_is, half_issue, sender_turn, receiver_turn}

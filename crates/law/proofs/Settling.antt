@@ -1,7 +1,7 @@
 -- After enough rounds nothing is unacknowledged, whatever the faults did: by windows, on faults left and messages left.
-use Rattle.std.proofs.Common.{◌≡◌, ℕ, zero, suc, ◌+◌, ◌-◌, ◌*◌, ◌<◌, ◌≤◌, max, List, [], ◌∷◌, ◌++◌, length, refl, arith}
+use Rattle.std.proofs.Common.{◌≡◌, ℕ, zero, suc, ◌+◌, ◌*◌, ◌<◌, ◌≤◌, List, [], ◌∷◌, length, refl, arith}
 use native.Mathlib.Decide.{dec_lt}
-use Rattle.law.specs.Link.{App, World, Reached, Rounds}
+use Rattle.law.specs.Link.{App, World}
 use Rattle.law.specs.Laws.{RoundsLeaveNothingUnacknowledged, Settled, faults_of, places_of}
 use Rattle.law.proofs.Runs.{Inv, inv}
 use Rattle.law.proofs.Keeping.{Kept, Steady, kept_rounds, more, rest, steady}

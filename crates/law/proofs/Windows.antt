@@ -1,5 +1,5 @@
 -- A window of 2C + 1 rounds in which no fault act happens clears the oldest message of each end.
-use Rattle.std.proofs.Common.{◌≡◌, ℕ, zero, suc, ◌+◌, ◌-◌, ◌*◌, ◌<◌, ◌≤◌, T, List, [], ◌∷◌, ◌++◌, length, sym, refl, ap, ◌∙◌, subst, arith}
+use Rattle.std.proofs.Common.{◌≡◌, ℕ, suc, ◌+◌, ◌<◌, ◌≤◌, T, List, length, ap, subst, arith}
 use native.Mathlib.Decide.{dec_lt}
 use Rattle.law.specs.Link.{App, Frame, message, alone, Chan, End, Turn, World}
 use Rattle.law.specs.Laws.{All, At, Carries, Fitting, Upto, faults_of}
@@ -7,7 +7,7 @@ use Rattle.law.proofs.Lists.{all_map}
 use Rattle.law.proofs.Half.{Half, next_is, below_next}
 use Rattle.law.proofs.Runs.{Both, swap, both_turn, Inv}
 use Rattle.law.proofs.Calm.{faults_in, faults_out, places_in, places_out, calm_turn, base_turn, issued_turn, Fine, Near, cleared, answered, flying, begun, sender_step, receiver_step, calm_room}
-use Rattle.law.proofs.Keeping.{Kept, Steady, fitting_flip, flip, kept_pair, kept_rounds, more, rest}
+use Rattle.law.proofs.Keeping.{Kept, Steady, fitting_flip, kept_pair, kept_rounds, more, rest}
 
 module _ {M : Type 0} where
   -- no acknowledgement that waits is above the next number of the end that it goes to

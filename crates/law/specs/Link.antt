@@ -1,6 +1,6 @@
 -- Two ends of a numbered link over two faulty channels: what a call and a turn may do, and the worlds that a run reaches.
 -- Frames are abstract, and so are the messages and the book above the link.
-use Rattle.std.specs.Prelude.{◌≡◌, ℕ, zero, suc, ◌+◌, ◌-◌, ◌<◌, ◌≤◌, Bool, T, ◌≢◌, List, [], ◌∷◌, ◌++◌, length, drop}
+use Rattle.std.specs.Prelude.{◌≡◌, ℕ, suc, ◌+◌, ◌-◌, ◌<◌, ◌≤◌, Bool, T, ◌≢◌, List, [], ◌∷◌, ◌++◌, length, drop}
 use Rattle.std.proofs.Math.Option.{Option, none, some}
 
 -- a frame: a message with its number and an acknowledgement, or an acknowledgement alone

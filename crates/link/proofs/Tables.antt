@@ -1,11 +1,11 @@
 -- The table of eight, as a list.
-use Rattle.std.proofs.Common.{◌≡◌, ℕ, zero, suc, ◌+◌, ◌-◌, ◌<◌, ◌≤◌, Bool, true, false, ◌&&◌, List, [], ◌∷◌, ◌++◌, length, get_or, take, drop, set, Some, None, Option, sym, refl, ap, ◌∙◌, arith}
+use Rattle.std.proofs.Common.{◌≡◌, ℕ, zero, suc, ◌+◌, ◌-◌, ◌<◌, ◌≤◌, Bool, true, false, ◌&&◌, List, [], ◌∷◌, ◌++◌, length, get_or, take, drop, set, Some, None, sym, refl, ap, ◌∙◌, arith}
 use Rattle.std.proofs.lemmas.List.{take-append-le, drop-take, length-drop, length-take-le, take_more_set}
 use Rattle.std.proofs.lemmas.Bool.{and_parts}
 use Rattle.message.specs.declared.Message.{Message}
 use Rattle.message.specs.Ranges.{unfit_of}
 use Rattle.link.specs.Fits.{is_none, message_fits, all_fit, window}
-use Rattle.link.specs.Kept.{Kept, kept, forgotten, oldest_of}
+use Rattle.link.specs.Kept.{Kept, forgotten, oldest_of}
 
 pub and_true : (a b : Bool) → a ≡ true → b ≡ true → (a && b) ≡ true
 and_true true true p q = refl

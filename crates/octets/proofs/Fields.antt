@@ -1,5 +1,5 @@
 -- Fields that a slice pattern read.
-use Rattle.std.proofs.Common.{◌≡◌, ℕ, zero, suc, ◌+◌, ◌-◌, ◌<◌, ◌≤◌, List, [], ◌∷◌, ◌++◌, length, get_or, take, drop, sym, refl, ap, ◌∙◌, w8, Fits}
+use Rattle.std.proofs.Common.{◌≡◌, ℕ, zero, suc, ◌<◌, List, length, get_or, sym, refl, ap, ◌∙◌, w8, Fits}
 use Rattle.std.specs.List.{AllByRecursion as All}
 use Rattle.octets.specs.Numbers.{bytes_of, value}
 use Rattle.octets.proofs.Fronts.{from, whole}

@@ -1,5 +1,5 @@
 -- A list by its first elements, as a slice pattern reads them.
-use Rattle.std.proofs.Common.{◌≡◌, ℕ, zero, suc, ◌+◌, ◌-◌, ◌<◌, ◌≤◌, List, [], ◌∷◌, ◌++◌, length, get_or, take, drop, sym, refl, ap, ◌∙◌, add-zero, add-suc, suc-add, arith, drop-cons}
+use Rattle.std.proofs.Common.{◌≡◌, ℕ, zero, suc, ◌+◌, ◌-◌, ◌<◌, ◌≤◌, List, [], ◌∷◌, ◌++◌, length, get_or, take, drop, sym, ap, ◌∙◌, add-zero, add-suc, suc-add, arith, drop-cons}
 use Rattle.std.proofs.lemmas.List.{append-nil, drop_all, take_rest, take-append-drop, take_all, take_more}
 
 -- n elements from the place i on

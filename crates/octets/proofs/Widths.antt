@@ -1,6 +1,6 @@
 -- The laws of `bytes_of` and `value`, once for every width.
-use Rattle.std.proofs.Common.{◌≡◌, ℕ, zero, suc, ◌+◌, ◌*◌, ◌/◌, ◌%◌, ◌^◌, ◌<◌, ◌≤◌, List, [], ◌∷◌, ◌++◌, length, sym, refl, ap, ◌∙◌, subst, add-zero, add_assoc, mod-lt, mod-eq_of_lt, zero-lt-suc, mul_assoc, mul_comm, add-mul, pow-suc, zero-add, arith}
-use native.Mathlib.Nat.{pow-zero, one-le-pow, mod-one}
+use Rattle.std.proofs.Common.{◌≡◌, ℕ, zero, suc, ◌+◌, ◌*◌, ◌%◌, ◌^◌, ◌<◌, List, [], ◌∷◌, length, sym, refl, ap, ◌∙◌, add_assoc, mod-eq_of_lt, zero-lt-suc, mul_assoc, mul_comm, add-mul, pow-suc, zero-add, arith}
+use native.Mathlib.Nat.{one-le-pow, mod-one}
 use lib.Arith.{digits_lt, digits_div, digits_mod, mod-mul}
 use Rattle.std.specs.List.{AllByRecursion as All}
 use Rattle.octets.specs.Numbers.{bytes_of, value}

@@ -1,5 +1,5 @@
 -- Lists of numbered messages: equal where their messages are, since both count from one number.
-use Rattle.std.proofs.Common.{◌≡◌, ℕ, zero, suc, ◌+◌, ◌<◌, ◌≤◌, List, [], ◌∷◌, ◌++◌, map, length, sym, refl, ap, ◌∙◌, subst, arith}
+use Rattle.std.proofs.Common.{◌≡◌, ℕ, zero, suc, ◌+◌, List, [], ◌∷◌, ◌++◌, length, sym, refl, ap, ◌∙◌, subst, arith}
 use Rattle.message.specs.declared.Message.{Message}
 use Rattle.law.specs.Laws.{At, Prefix}
 use Rattle.runs.specs.Turns.{Entry}

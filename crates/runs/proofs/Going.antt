@@ -1,5 +1,5 @@
 -- A round can always be made.
-use Rattle.std.proofs.Common.{◌≡◌, ℕ, ◌+◌, ◌<◌, ◌≤◌, Bool, true, false, ltb, ◌⊎◌, List, [], ◌∷◌, ◌++◌, map, length, take, drop, Some, None, Ok, Err, Option, Result, sym, refl, ap, ◌∙◌, subst, inl, inr, arith}
+use Rattle.std.proofs.Common.{◌≡◌, ℕ, Bool, true, false, ltb, List, [], ◌∷◌, ◌++◌, map, length, drop, Some, None, Ok, Err, sym, refl, ap, subst, inr, arith}
 use mathlib.Core.List.{replicate}
 use Rattle.std.proofs.lemmas.List.{take_at}
 use Rattle.std.proofs.lemmas.Bool.{ltb-true, ltb-false}
@@ -14,11 +14,11 @@ use Rattle.link.specs.declared.turned.Collected.{Collected}
 use Rattle.link.specs.declared.turned.Collected.TheVariants as became
 use Rattle.link.specs.declared.turned.Turned.{Turned}
 use Rattle.link.specs.Kept.{offered}
-use Rattle.runs.specs.Turns.{Gathers, Hears, Plain, Posts, ack_of, after_by, frame_in, tells}
-use Rattle.runs.specs.Runs.{Round, Side, Turn, World, round, turn}
+use Rattle.runs.specs.Turns.{Gathers, Hears, Plain, Posts, ack_of, after_by, tells}
+use Rattle.runs.specs.Runs.{Side, Turn, round, turn}
 use Rattle.runs.specs.Laws.{ARoundCanBeMade}
 use Rattle.runs.proofs.Lifting.{bytes_fit, bytes_of, packet_of}
-use Rattle.runs.proofs.Shadows.{Shadow, Waits, shadow, turn_lift}
+use Rattle.runs.proofs.Shadows.{Waits, shadow, turn_lift}
 
 abbrev blank : List ℕ
 blank = replicate 64 0

@@ -1,5 +1,5 @@
 -- What bytes do to an end, as what a frame does to an end of the law.
-use Rattle.std.proofs.Common.{◌≡◌, ℕ, zero, suc, ◌+◌, ◌-◌, ◌<◌, ◌≤◌, Bool, true, false, cond, T, eqb, ltb, List, [], ◌∷◌, ◌++◌, map, length, drop, Ok, Err, Option, Result, sym, refl, ap, ◌∙◌, subst, arith}
+use Rattle.std.proofs.Common.{◌≡◌, ℕ, suc, ◌+◌, ◌-◌, ◌≤◌, Bool, true, false, cond, T, eqb, ltb, List, [], ◌∷◌, drop, Ok, Err, Result, sym, refl, ap, subst, arith}
 use mathlib.Core.Option as maybe
 use Rattle.std.proofs.lemmas.List.{map_push}
 use Rattle.std.proofs.lemmas.Bool.{ltb-true, ltb-false, eqb-true, eqb-false}
@@ -8,21 +8,18 @@ use Rattle.refusal.specs.declared.Refusal.TheVariants as refusal
 use Rattle.refusal.specs.Numbers.{number_of}
 use Rattle.message.specs.declared.Message.{Message}
 use Rattle.frame.specs.declared.Packet.{Packet}
-use Rattle.frame.specs.declared.Packet.TheVariants.{Data, Acknowledgement}
-use Rattle.frame.specs.Packets.{Reads, Sendable, written}
 use Rattle.frame.proofs.Once.{reads_back}
 use Rattle.law.specs.Link as law
 use Rattle.law.specs.Link.{App, Frame}
-use Rattle.law.specs.Laws.{All}
 use Rattle.law.proofs.Channels.{Given}
 use Rattle.link.specs.declared.state.Standing.TheVariants.{Expected, Repeat, Early}
 use Rattle.link.specs.declared.turned.Collected.{Collected}
 use Rattle.link.specs.declared.turned.Collected.TheVariants as became
-use Rattle.link.specs.Kept.{Kept, next_of, offers, offered}
+use Rattle.link.specs.Kept.{next_of, offers}
 use Rattle.runs.specs.Turns.{Entry, HeardAs, HeardFrame, Plain, ack_of, after_by, becomes, becomes_alone, tells}
 use Rattle.runs.specs.Runs.{noted}
 use Rattle.runs.specs.Laws.{messages}
-use Rattle.runs.proofs.Lifting.{CanBeSent, bytes_of, packet_of, written_in}
+use Rattle.runs.proofs.Lifting.{CanBeSent, packet_of, written_in}
 
 -- the end of the law
 abbrev pub end_of : {St : Type 0} → Plain St → List Entry → List Entry → law.End Message St

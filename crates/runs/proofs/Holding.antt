@@ -1,5 +1,5 @@
 -- The law over runs of bytes, by the run of the law that shadows each.
-use Rattle.std.proofs.Common.{◌≡◌, ℕ, zero, suc, ◌+◌, ◌*◌, ◌<◌, ◌≤◌, Bool, true, T, leb, List, [], ◌∷◌, ◌++◌, map, length, drop, Ok, Option, sym, refl, ap, ◌∙◌, subst, arith}
+use Rattle.std.proofs.Common.{◌≡◌, ℕ, ◌+◌, ◌≤◌, true, T, leb, List, [], ◌∷◌, map, length, drop, Option, sym, refl, ◌∙◌, subst, arith}
 use mathlib.Core.Option as maybe
 use Rattle.std.proofs.lemmas.Bool.{and_parts, leb-true}
 use Rattle.refusal.specs.declared.Refusal.{Refusal}
@@ -19,13 +19,13 @@ use Rattle.law.proofs.Runs.{Both, agrees, inv, swap}
 use Rattle.link.specs.declared.turned.Collected.{Collected}
 use Rattle.link.specs.declared.turned.Collected.TheVariants as became
 use Rattle.link.specs.declared.turned.Turned.{Turned}
-use Rattle.runs.specs.Turns.{Entry, HeardFrame, Plain}
+use Rattle.runs.specs.Turns.{HeardFrame, Plain}
 use Rattle.runs.specs.Runs.{Reached, Side, Turn, World, turn}
-use Rattle.runs.specs.Laws.{Agreed, Between, BookingsBeginWhatWasIssued, Counted, Fitting, MisfitsAlone, NoTurnMeetsABrokenFrame, QueuesKeepARelation, Said, TellsOf, WaitingFramesAreTrue, messages}
+use Rattle.runs.specs.Laws.{Between, BookingsBeginWhatWasIssued, Counted, Fitting, MisfitsAlone, NoTurnMeetsABrokenFrame, QueuesKeepARelation, Said, TellsOf, WaitingFramesAreTrue, messages}
 use Rattle.runs.proofs.Counting.{counted_at, counted_prefix, counted_same, length_messages}
 use Rattle.runs.proofs.Hearing.{heard_so, refuses_misfits}
 use Rattle.runs.proofs.Lifting.{CanBeSent, bytes_of, chan_of, collect_lift, packet_of, written_in}
-use Rattle.runs.proofs.Shadows.{Shadow, Tidy, Waits, shadow, side_of, world_of}
+use Rattle.runs.proofs.Shadows.{Waits, shadow, side_of, world_of}
 
 pub begin : (C St : Type 0) → BookingsBeginWhatWasIssued C St
 begin C St app s p w r =

@@ -1,8 +1,7 @@
 -- The ranges stay over every frame that can be sent and over every call, and what is booked has the expected number.
-use Rattle.std.proofs.Common.{◌≡◌, ℕ, suc, ◌+◌, ◌<◌, ◌≤◌, Bool, true, false, cond, ◌&&◌, eqb, ltb, leb, List, [], ◌∷◌, ◌++◌, length, Some, None, Ok, Err, Option, Result, sym, refl, ap, ◌∙◌, subst, arith}
+use Rattle.std.proofs.Common.{◌≡◌, ℕ, ◌<◌, ◌≤◌, Bool, true, false, cond, eqb, ltb, leb, [], length, Some, None, Ok, Err, Option, sym, refl, subst, arith}
 use mathlib.Core.Option as maybe
-use Rattle.std.proofs.lemmas.Bool.{and_parts, ltb-true, ltb-false, eqb-true, eqb-false, leb-true, leb-false}
-use Rattle.refusal.specs.declared.Refusal.{Refusal}
+use Rattle.std.proofs.lemmas.Bool.{and_parts, ltb-false, eqb-true, leb-true, leb-false}
 use Rattle.refusal.specs.declared.Refusal.TheVariants as refusal
 use Rattle.message.specs.declared.Message.{Message}
 use Rattle.message.specs.Ranges.{unfit_of, within}
@@ -15,7 +14,7 @@ use Rattle.link.specs.declared.state.Standing.TheVariants.{Expected, Repeat, Ear
 use Rattle.link.specs.declared.turned.Collected.{Collected}
 use Rattle.link.specs.declared.turned.Collected.TheVariants as became
 use Rattle.link.specs.Kept.{Kept, Ranged, admits, admits_by, cleared, next_of}
-use Rattle.link.proofs.Ranges.{ranged_await, ranged_clear, ranged_join}
+use Rattle.link.proofs.Ranges.{ranged_await, ranged_clear}
 use Rattle.runs.specs.Turns.{HeardFrame, Plain, ack_of, after_by, becomes, becomes_alone, tells}
 use Rattle.runs.proofs.Hearing.{heard_so}
 use Rattle.runs.proofs.Lifting.{CanBeSent, packet_of, written_in}

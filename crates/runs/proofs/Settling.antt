@@ -1,5 +1,5 @@
 -- Enough rounds of bytes leave nothing unacknowledged, since the rounds of the law that shadow them do.
-use Rattle.std.proofs.Common.{◌≡◌, ℕ, zero, suc, ◌+◌, ◌*◌, ◌<◌, ◌≤◌, List, [], ◌∷◌, length, sym, refl, ap, ◌∙◌, subst, arith}
+use Rattle.std.proofs.Common.{◌≡◌, ℕ, suc, ◌≤◌, List, sym, ap, ◌∙◌, subst, arith}
 use Rattle.message.specs.declared.Message.{Message}
 use Rattle.law.specs.Link as law
 use Rattle.law.specs.Link.{App, Frame}
@@ -9,7 +9,7 @@ use Rattle.law.proofs.Keeping.{Steady, more, rest}
 use Rattle.law.proofs.Runs.{inv}
 use Rattle.law.proofs.Settling.{settles_steadily}
 use Rattle.runs.specs.Runs.{Reached, Round, Rounds, World, again, done, faults_of, places_of, pledgor_turns, round, secured_turns, stepped}
-use Rattle.runs.specs.Laws.{AlwaysFitting, Fitting, RoundsLeaveNothingUnacknowledged, Settled, SettlesAfter, messages, rounds_enough}
+use Rattle.runs.specs.Laws.{AlwaysFitting, Fitting, RoundsLeaveNothingUnacknowledged, SettlesAfter, messages, rounds_enough}
 use Rattle.runs.proofs.Counting.{length_messages}
 use Rattle.runs.proofs.Shadows.{Shadow, shadow, turn_lift, world_of}
 

@@ -1,5 +1,5 @@
 -- Every world of bytes that a run reaches is the written form of a world that a run of the law reaches.
-use Rattle.std.proofs.Common.{◌≡◌, ℕ, zero, suc, ◌+◌, ◌*◌, ◌<◌, ◌≤◌, ◌⊎◌, List, [], ◌∷◌, ◌++◌, map, length, Ok, Err, Option, Result, sym, refl, ap, ◌∙◌, subst, inl, inr, arith}
+use Rattle.std.proofs.Common.{◌≡◌, ℕ, suc, ◌≤◌, ◌⊎◌, List, [], ◌∷◌, ◌++◌, map, length, Ok, Err, Option, Result, sym, refl, subst, inl, inr, arith}
 use mathlib.Core.Option as maybe
 use Rattle.std.proofs.lemmas.List.{map_push}
 use Rattle.refusal.specs.declared.Refusal.{Refusal}
@@ -17,10 +17,10 @@ use Rattle.law.proofs.Runs.{inv}
 use Rattle.link.specs.declared.turned.Collected.{Collected}
 use Rattle.link.specs.declared.turned.Collected.TheVariants as became
 use Rattle.link.specs.declared.turned.Turned.{Turned}
-use Rattle.link.specs.Kept.{Kept, Ranged, admits, next_of, offered}
+use Rattle.link.specs.Kept.{Ranged, admits, next_of, offered}
 use Rattle.link.proofs.Ranges.{ranged_join, ranged_offer, ranged_opened}
-use Rattle.runs.specs.Turns.{Called, Entry, HeardFrame, Plain, Turns, admitted_as, called, drafted_as}
-use Rattle.runs.specs.Runs.{Reached, Round, Rounds, Side, Step, Turn, World, again, began, calling, done, noted, pledgor_calls, pledgor_turns, round, secured_calls, secured_turns, sent, stepped, turn}
+use Rattle.runs.specs.Turns.{Called, Entry, HeardFrame, admitted_as, drafted_as}
+use Rattle.runs.specs.Runs.{Reached, Side, Step, Turn, World, began, calling, noted, pledgor_calls, pledgor_turns, secured_calls, secured_turns, sent, stepped, turn}
 use Rattle.runs.specs.Laws.{Counted, messages}
 use Rattle.runs.proofs.Counting.{counted_push, length_messages}
 use Rattle.runs.proofs.Hearing.{end_of, hear_lift, offered_is}

@@ -7,7 +7,7 @@ use Rattle.law.specs.Link.{App}
 use Rattle.link.specs.declared.turned.Collected.{Collected}
 use Rattle.link.specs.declared.turned.Collected.TheVariants as became
 use Rattle.link.specs.declared.turned.Turned.{Turned}
-use Rattle.runs.specs.Turns.{Called, Entry, Plain, Turns, called, plainly}
+use Rattle.runs.specs.Turns.{Entry, Plain, Turns, called, plainly}
 
 -- an end, with what its calls issued and what its turns booked, in order of time, by the answers
 pub record Side (St : Type 0) : Type 0 where

@@ -309,7 +309,7 @@ mod tests {
             [10_000, 9_950, 9_850, 9_700, 9_500, 9_250, 8_950, 8_600]
         );
         assert_eq!(rt; scenario.lots.len(), 1);
-        assert_eq!(rt; scenario.quotes.as_slice(), &[-1, -2, 8]);
+        assert_eq!(rt; scenario.quotes.as_slice(), [-1i64, -2, 8].as_slice());
         assert_eq!(rt; scenario.panels.len(), 2);
         assert_eq!(rt; scenario.values.len(), 1);
         Ok(())

@@ -1,6 +1,6 @@
 -- Worked figures: threshold 1,000,000, both minimum transfer amounts 500,000, no independent amounts, the
 -- standard schedule.
-use Rattle.std.specs.Prelude.{◌≡◌, ℕ, List, [], ◌∷◌, ℤ, pos, negsuc, Some, slice_index}
+use Rattle.std.specs.Prelude.{◌≡◌, ℕ, [], ◌∷◌, ℤ, pos, negsuc, Some, slice_index}
 use Rattle.annex.specs.declared.terms.Terms.{Terms}
 use Rattle.annex.specs.Schedule.{percent}
 use Rattle.amounts.specs.declared.weighing.Notice.{Notice}

@@ -1,6 +1,5 @@
-use Rattle.std.proofs.Common.{◌≡◌, ℕ, arith, rules}
+use Rattle.std.proofs.Common.{arith, rules}
 use Rattle.octets.specs.Numbers.{value}
-use Rattle.octets.proofs.Fronts.{from}
 use Rattle.octets.proofs.Fields.{read_whole}
 use Rattle.octets.proofs.be_u64.Goals as goal
 

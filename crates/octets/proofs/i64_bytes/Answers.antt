@@ -1,4 +1,4 @@
-use Rattle.std.proofs.Common.{div-one, w64, SFits}
+use Rattle.std.proofs.Common.{div-one}
 use Rattle.std.proofs.lemmas.Int.{to_z-of_z}
 use Rattle.octets.specs.Numbers.{bytes_of}
 use Rattle.octets.proofs.i64_bytes.Goals as goal

@@ -1,4 +1,4 @@
-use Rattle.std.proofs.Common.{div-one, rules}
+use Rattle.std.proofs.Common.{div-one}
 use Rattle.octets.specs.Numbers.{bytes_of}
 use Rattle.octets.proofs.u64_bytes.Goals as goal
 

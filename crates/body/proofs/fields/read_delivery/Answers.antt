@@ -1,7 +1,5 @@
-use Rattle.std.proofs.Common.{◌≡◌, ℕ, ◌-◌, List, [], ◌∷◌, ◌++◌, length, get_or, take, drop, ap, ◌∙◌, arith, w64, SFits, to_z, of_z, rules}
-use Rattle.std.proofs.lemmas.Int.{to_z-of_z}
-use Rattle.octets.specs.Numbers.{bytes_of}
-use Rattle.octets.proofs.Fronts.{front, whole, cut}
+use Rattle.std.proofs.Common.{◌∙◌, rules}
+use Rattle.octets.proofs.Fronts.{front}
 use Rattle.body.proofs.fields.read_delivery.Goals as goal
 
 pub returns : goal.returns

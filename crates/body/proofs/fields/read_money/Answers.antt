@@ -1,8 +1,8 @@
-use Rattle.std.proofs.Common.{◌≡◌, ℕ, ◌-◌, List, [], ◌∷◌, ◌++◌, length, get_or, take, drop, ap, ◌∙◌, arith, w64, SFits, to_z, of_z, rules}
+use Rattle.std.proofs.Common.{◌∙◌, w64, SFits, of_z, rules}
 use Rattle.std.proofs.lemmas.Int.{to_z-of_z}
 use Rattle.std.proofs.lemmas.List.{append_assoc}
 use Rattle.octets.specs.Numbers.{bytes_of}
-use Rattle.octets.proofs.Fronts.{front, whole, cut, ends}
+use Rattle.octets.proofs.Fronts.{cut}
 use Rattle.body.proofs.fields.read_money.Goals as goal
 
 pub returns : goal.returns

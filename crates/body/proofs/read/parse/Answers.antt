@@ -1,4 +1,4 @@
-use Rattle.std.proofs.Common.{◌≡◌, w64, SFits, rules}
+use Rattle.std.proofs.Common.{w64, SFits, rules}
 use Rattle.std.proofs.lemmas.Int.{to_z-of_z}
 use Rattle.body.proofs.Bodies.{at_kind}
 use Rattle.body.proofs.read.parse.Goals as goal

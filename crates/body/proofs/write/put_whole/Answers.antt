@@ -1,4 +1,4 @@
-use Rattle.std.proofs.Common.{◌≡◌, ℕ, List, [], ◌∷◌, ap, arith}
+use Rattle.std.proofs.Common.{ℕ, [], ◌∷◌, ap, arith}
 use Rattle.octets.proofs.Puts.{join, same_bytes}
 use Rattle.body.proofs.write.put_whole.Goals as goal
 

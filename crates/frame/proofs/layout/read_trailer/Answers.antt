@@ -1,4 +1,4 @@
-use Rattle.std.proofs.Common.{◌≡◌, List, ◌∷◌, ◌++◌, ◌∙◌, rules}
+use Rattle.std.proofs.Common.{◌∙◌, rules}
 use Rattle.octets.proofs.Fronts.{whole}
 use Rattle.frame.proofs.layout.read_trailer.Goals as goal
 

@@ -1,4 +1,4 @@
-use Rattle.std.proofs.Common.{◌≡◌, ℕ, ◌-◌, List, length, take, sym, ap, ◌∙◌, arith}
+use Rattle.std.proofs.Common.{◌≡◌, ℕ, ◌-◌, List, length, take, sym, ap, arith}
 use Rattle.frame.proofs.Parts.{at_trailer, at_long, at_alone, at_data, at_body}
 use Rattle.frame.proofs.read.read_judged.Goals as goal
 

@@ -1,4 +1,4 @@
-use Rattle.std.proofs.Common.{arith, rules}
+use Rattle.std.proofs.Common.{rules}
 use Rattle.frame.specs.declared.Packet.TheVariants.{Acknowledgement}
 use Rattle.frame.proofs.Written.{ok}
 use Rattle.frame.proofs.write.put_acknowledgement.Goals as goal

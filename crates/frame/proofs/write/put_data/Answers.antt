@@ -1,6 +1,5 @@
-use Rattle.std.proofs.Common.{◌≡◌, length, refl, arith}
+use Rattle.std.proofs.Common.{refl}
 use Rattle.octets.proofs.Puts.{join}
-use Rattle.message.specs.Bodies.{body_of}
 use Rattle.frame.proofs.Written.{at_trailer, at_end, typed_trailer}
 use Rattle.frame.proofs.write.put_data.Goals as goal
 

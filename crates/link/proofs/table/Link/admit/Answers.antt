@@ -1,9 +1,9 @@
-use Rattle.std.proofs.Common.{◌≡◌, ℕ, ◌+◌, List, length, take, None, Ok, Err, sym, ap, ◌∙◌, arith, rules}
+use Rattle.std.proofs.Common.{◌≡◌, ℕ, ◌+◌, List, None, Ok, Err, sym, ap, ◌∙◌, arith, rules}
 use Rattle.std.proofs.lemmas.List.{take_more_set}
 use Rattle.refusal.specs.declared.Refusal.TheVariants.{LastNumber}
 use Rattle.message.specs.declared.Message.{Message}
 use Rattle.message.specs.Ranges.{unfit_of}
-use Rattle.link.specs.Kept.{Kept, kept, admits}
+use Rattle.link.specs.Kept.{kept, admits}
 use Rattle.link.proofs.Calls.{spent, given, after_answer}
 use Rattle.link.proofs.Tables.{length_front, fit_admit}
 use Rattle.link.proofs.table.Link.admit.Goals as goal

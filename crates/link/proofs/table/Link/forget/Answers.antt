@@ -1,4 +1,4 @@
-use Rattle.std.proofs.Common.{◌-◌, ◌∙◌, arith, rules}
+use Rattle.std.proofs.Common.{◌∙◌, arith}
 use Rattle.link.proofs.Tables.{fit_clear, forgotten_is}
 use Rattle.link.proofs.table.Link.forget.Goals as goal
 

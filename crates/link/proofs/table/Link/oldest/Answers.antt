@@ -1,4 +1,4 @@
-use Rattle.std.proofs.Common.{arith, rules}
+use Rattle.std.proofs.Common.{arith}
 use Rattle.link.proofs.Tables.{oldest_is}
 use Rattle.link.proofs.table.Link.oldest.Goals as goal
 
