@@ -1,5 +1,5 @@
 -- The accord of the two books is kept by every call and every booking.
-use Rattle.std.proofs.Common.{◌≡◌, ℕ, ◌<◌, Bool, true, false, cond, ◌&&◌, ◌||◌, eqb, ltb, leb, List, [], ◌∷◌, ◌++◌, length, set, ℤ, Ok, Err, Result, sym, refl, ap, ◌∙◌, subst, arith, length-set}
+use Rattle.std.proofs.Common.{◌≡◌, ℕ, ◌<◌, Bool, true, false, cond, ◌&&◌, ◌||◌, eqb, ltb, leb, List, [], ◌∷◌, ◌++◌, length, ℤ, Ok, Err, Result, sym, refl, ap, ◌∙◌, subst, arith, set, length-set}
 use Rattle.std.proofs.lemmas.Bool.{ltb-true, leb-false, lt-ltb, le-leb, eq-eqb, and_parts, and_from}
 use Rattle.refusal.specs.declared.Refusal.{Refusal}
 use Rattle.refusal.specs.declared.Refusal.TheVariants as refused
@@ -34,12 +34,13 @@ use Rattle.pledgor.specs.Calls.{PledgorCall, answer, deliver, substitute, ask, r
 use Rattle.pledgor.specs.Lots as posts
 use Rattle.pledgor.specs.Lots.{home_at, is_home, is_posted, posted_at}
 use Rattle.pledgor.specs.Sound.{Ranged}
+use Rattle.secured.proofs.Cover.{books_kept, notify_kept, resolve_kept, confirm_kept, reply_kept}
+use Rattle.secured.proofs.Tables.{adds_now}
+use Rattle.pledgor.proofs.Ranges.{books_ranged, drafted_ranged}
 use Rattle.accord.specs.Standing.{about}
 use Rattle.accord.specs.Accord.{Accord, Days, Lots, dated}
 use Rattle.accord.proofs.Lots.{secured_fit, secured_book, pledgor_fit, pledgor_book, none_forth, none_back, return_issue, decline_issue, deliver_issue, ask_issue, substitute_issue, with_lots}
 use Rattle.accord.proofs.Days.{waits, ended_waits, disputed_waits, closing_waits, called_waits, offered_waits, notice_issue, reply_issue, answer_issue, lots_issue, answer_fit, notice_fit, answer_book, notice_book}
-use Rattle.accord.proofs.Own.{books_ranged, move_ranged}
-use Rattle.accord.proofs.Cover.{counted, books_kept, notify_kept, resolve_kept, confirm_kept, reply_kept}
 
 -- what a call issues behind a test
 refuses : {A E : Type 0} (P : A → Type 0) (r : E) (y : A) → ◌≡◌ {A = Result A E} (Err r) (Ok y) → P y
@@ -65,6 +66,7 @@ weighs_is s r w P q k = behind P (is_ended s.day.state && ltb s.day.number r.day
       let b = and_parts (is_ended s.day.state) (ltb s.day.number r.day) t in
       gives P (weighing s r x) w (sym z ∙ q) (k x b.0 b.1)
 
+-- booking keeps the table's length
 secured_length : (s : SecuredState) (m : Message) → length (secured.lots_after s m) ≡ length s.lots
 secured_length s (Quiet n e) = refl
 secured_length s (Call n e a) = refl
@@ -101,17 +103,17 @@ module _ (s : SecuredState) (p : PledgorState) (xs ys : List Message) where
         terms = h.terms;
         lots = secured_book s p xs ys h.size m (and_parts (answer_fits s.day m) (secured.lots_fit s m) t).1 h.lots;
         days = answer_book s.day p.day xs ys m h.days;
-        kept = books_kept s h.size m t h.kept;
+        kept = books_kept s h.size h.kept m t;
         size = secured_length s m ∙ h.size;
         ranged = h.ranged;
       }
 
   pub pledgor_books : (m : Message) → Accord s p (m ∷ xs) ys → Accord s (pledgor.books p m) xs ys
   pledgor_books m h =
-      let t = (and_parts (notice_fits p.day m) (pledgor.lots_fit p m) (pledgor_fits m h)).1 in
+      let t = pledgor_fits m h in
       record {
         terms = h.terms;
-        lots = pledgor_book s p xs ys h.ranged m t h.lots;
+        lots = pledgor_book s p xs ys h.ranged m (and_parts (notice_fits p.day m) (pledgor.lots_fit p m) t).1 h.lots;
         days = notice_book s.day p.day xs ys m h.days;
         kept = h.kept;
         size = h.size;
@@ -167,7 +169,7 @@ module _ (s : SecuredState) (p : PledgorState) (xs ys : List Message) where
           terms = h.terms;
           lots = none_forth s p xs ys m (λ k. refl) h.lots;
           days = notice_issue s.day p.day xs ys m (disputed_waits s.day.state t) (and_from (is_disputed s.day.state) (eqb s.day.number s.day.number) t same_day) h.days;
-          kept = resolve_kept s x t h.kept;
+          kept = resolve_kept s h.size h.kept x t;
           size = h.size;
           ranged = h.ranged;
         })
@@ -181,7 +183,7 @@ module _ (s : SecuredState) (p : PledgorState) (xs ys : List Message) where
           terms = h.terms;
           lots = none_forth s p xs ys m (λ k. refl) h.lots;
           days = notice_issue s.day p.day xs ys m (closing_waits s.day.state c) (and_from (is_closing s.day.state) (eqb s.day.number s.day.number) c same_day) h.days;
-          kept = confirm_kept s c t h.kept;
+          kept = confirm_kept s h.size h.kept c t;
           size = h.size;
           ranged = h.ranged;
         }))
@@ -194,7 +196,7 @@ module _ (s : SecuredState) (p : PledgorState) (xs ys : List Message) where
       terms = h.terms;
       lots = return_issue s p xs ys l (omega (arith, h.size)) h.lots v q;
       days = reply_issue s.day p.day xs ys (Return l) refl h.days;
-      kept = reply_kept s l Absent h.size i (ap (counted s) q) h.kept;
+      kept = reply_kept s h.size h.kept l Absent i (ap (adds_now s) q);
       size = length-set s.lots l Absent ∙ h.size;
       ranged = h.ranged;
     })
@@ -202,7 +204,7 @@ module _ (s : SecuredState) (p : PledgorState) (xs ys : List Message) where
       terms = h.terms;
       lots = decline_issue s p xs ys l (omega (arith, h.size)) h.lots v q;
       days = reply_issue s.day p.day xs ys (Decline l) refl h.days;
-      kept = reply_kept s l (Held v) h.size i (ap (counted s) q) h.kept;
+      kept = reply_kept s h.size h.kept l (Held v) i (ap (adds_now s) q);
       size = length-set s.lots l (Held v) ∙ h.size;
       ranged = h.ranged;
     })
@@ -215,21 +217,21 @@ module _ (s : SecuredState) (p : PledgorState) (xs ys : List Message) where
     secured_issues confirm m t e = confirm_issue (m, t) e
     secured_issues (reply l) m t e = behind Forth (ltb l 32) (replying s l (holds.lot_at s l)) refused.Lot (m, t) e (λ i q. reply_to l (ltb-true l 32 i) (holds.lot_at s l) refl (m, t) q)
 
-  -- what a call of the pledgor leaves
+  -- what a call of the pledgor leaves, where its book is in range
   Back : Message × PledgorState → Type 0
-  Back z = Accord s z.1 xs (ys ++ (z.0 ∷ []))
+  Back z = Ranged z.1 → Accord s z.1 xs (ys ++ (z.0 ∷ []))
 
   module _ (h : Accord s p xs ys) where
     -- an answer
     answer_back : (m : Message) (x : DayState) → ((k : ℕ) → about k m ≡ []) → waits p.day.state ≡ true → answer_fits p.day m ≡ true → answered p.day m ≡ day_in p.day x → Back (m, pledgor_calls.with_day p x)
     unfolding Back
-    answer_back m x n w t e = record {
+    answer_back m x n w t e = λ r. record {
       terms = h.terms;
       lots = none_back s p xs ys m n h.lots;
       days = subst (λ d. Days s.day d xs (ys ++ (m ∷ []))) e (answer_issue s.day p.day xs ys m w t h.days);
       kept = h.kept;
       size = h.size;
-      ranged = h.ranged;
+      ranged = r;
     }
 
     own_day : eqb p.day.number p.day.number ≡ true
@@ -251,9 +253,9 @@ module _ (s : SecuredState) (p : PledgorState) (xs ys : List Message) where
         passed Back (is_called p.day.state) _ refused.State z q (λ c. answer_of_lem c (due_amount (posts.terms_of p) x (posts.value_by p r))))
 
     -- a message about lots
-    about_back : (m : Message) (ls : List PledgorLot) → Lots s (with_lots p ls) xs (ys ++ (m ∷ [])) → dated p.day.number m ≡ true → Ranged (with_lots p ls) → Back (m, with_lots p ls)
+    about_back : (m : Message) (ls : List PledgorLot) → Lots s (with_lots p ls) xs (ys ++ (m ∷ [])) → dated p.day.number m ≡ true → Back (m, with_lots p ls)
     unfolding Back
-    about_back m ls g t r = record {
+    about_back m ls g t = λ r. record {
       terms = h.terms;
       lots = g;
       days = lots_issue s.day p.day xs ys m t h.days;
@@ -274,22 +276,23 @@ module _ (s : SecuredState) (p : PledgorState) (xs ys : List Message) where
     at_posted : (l : ℕ) → posted_at p l ≡ true → (l < p.count) × (is_posted (posts.lot_at p l).place ≡ true)
     at_posted l u = let r = and_parts (ltb l p.count) (is_posted (posts.lot_at p l).place) u in (ltb-true l p.count r.0, r.1)
 
-    -- every call of the pledgor that issues a message
-    pub pledgor_issues : (c : PledgorCall) (m : Message) (t : PledgorState) → pledgor_calls.drafts p c ≡ Ok (m, t) → Accord s t xs (ys ++ (m ∷ []))
-    unfolding Back
-    pledgor_issues (answer r) m t e = answer_to r (checked_row r) (m, t) e
-    pledgor_issues (deliver l) m t e = behind Back (home_at p l) _ refused.Lot (m, t) e (λ u q. passed Back (is_open p.day.state) _ refused.State (m, t) q (λ _.
+    gives_back : (c : PledgorCall) (m : Message) (t : PledgorState) → pledgor_calls.drafts p c ≡ Ok (m, t) → Back (m, t)
+    gives_back (answer r) m t e = answer_to r (checked_row r) (m, t) e
+    gives_back (deliver l) m t e = behind Back (home_at p l) _ refused.Lot (m, t) e (λ u q. passed Back (is_open p.day.state) _ refused.State (m, t) q (λ _.
         let r = at_home l u in
-        about_back (pledgor_calls.delivery p l) (pledgor_calls.with_lot p l Posted).lots (deliver_issue s p xs ys h.lots l (inside l r.0) r.1) today (move_ranged p h.ranged l Posted r.0)))
-    pledgor_issues (substitute l o) m t e = passed Back (home_at p l && posted_at p o) _ refused.Lot (m, t) e (λ u.
+        about_back (pledgor_calls.delivery p l) (pledgor_calls.with_lot p l Posted).lots (deliver_issue s p xs ys h.lots l (inside l r.0) r.1) today))
+    gives_back (substitute l o) m t e = passed Back (home_at p l && posted_at p o) _ refused.Lot (m, t) e (λ u.
         let q = and_parts (home_at p l) (posted_at p o) u in
         let r = at_home l q.0 in
         let v = at_posted o q.1 in
-        let one = pledgor_calls.with_lot p l Posted in
-        about_back (pledgor_calls.substitution p l o) (pledgor_calls.with_lot one o Asked).lots (substitute_issue s p xs ys h.lots l o (inside l r.0) r.1 (inside o v.0) v.1) refl
-        (move_ranged one (move_ranged p h.ranged l Posted r.0) o Asked v.0))
-    pledgor_issues (ask l) m t e = behind Back (posted_at p l) _ refused.Lot (m, t) e (λ u q. passed Back (is_offered p.day.state) _ refused.State (m, t) q (λ _.
+        about_back (pledgor_calls.substitution p l o) (pledgor_calls.with_lot (pledgor_calls.with_lot p l Posted) o Asked).lots (substitute_issue s p xs ys h.lots l o (inside l r.0) r.1 (inside o v.0) v.1) refl)
+    gives_back (ask l) m t e = behind Back (posted_at p l) _ refused.Lot (m, t) e (λ u q. passed Back (is_offered p.day.state) _ refused.State (m, t) q (λ _.
         let r = at_posted l u in
-        about_back (Ask p.day.number l) (pledgor_calls.with_lot p l Asked).lots (ask_issue s p xs ys h.lots p.day.number l (inside l r.0) r.1) today (move_ranged p h.ranged l Asked r.0)))
-    pledgor_issues release m t e = passed Back (is_offered p.day.state) _ refused.State (m, t) e (λ u.
+        about_back (Ask p.day.number l) (pledgor_calls.with_lot p l Asked).lots (ask_issue s p xs ys h.lots p.day.number l (inside l r.0) r.1) today))
+    gives_back release m t e = passed Back (is_offered p.day.state) _ refused.State (m, t) e (λ u.
         answer_back (Release p.day.number) day.Released (λ k. refl) (offered_waits p.day.state u) (and_from (is_offered p.day.state) (eqb p.day.number p.day.number) u own_day) refl)
+
+    -- every call of the pledgor that issues a message
+    pub pledgor_issues : (c : PledgorCall) (m : Message) (t : PledgorState) → pledgor_calls.drafts p c ≡ Ok (m, t) → Accord s t xs (ys ++ (m ∷ []))
+    unfolding Back
+    pledgor_issues c m t e = gives_back c m t e (drafted_ranged p h.ranged c m t e)

@@ -1,12 +1,10 @@
 -- The accord over runs, and what it promises.
 use Rattle.std.proofs.Common.{◌≡◌, ◌≤◌, true, ◌&&◌, ◌||◌, leb, ◌⊎◌, List, [], ◌∷◌, length, Ok, Err, Result, sym, refl, subst, inl, inr}
-use lib.ListN.{length-replicate}
-use borrow.Author.Tests.{clash}
 use Rattle.std.proofs.lemmas.Bool.{leb-true, and_parts}
 use Rattle.refusal.specs.declared.Refusal.{Refusal}
 use Rattle.refusal.specs.declared.Refusal.TheVariants as refusal
 use Rattle.annex.specs.declared.agreed.Annex.{Annex}
-use Rattle.annex.specs.Every.{every}
+use Rattle.std.specs.List.{list_all}
 use Rattle.amounts.specs.declared.lots.Lot.{Lot}
 use Rattle.amounts.specs.declared.lots.Place.TheVariants.{Home}
 use Rattle.amounts.specs.declared.lots.PledgorLot.{PledgorLot}
@@ -25,13 +23,14 @@ use Rattle.pledgor.specs.Bookings as pledgor
 use Rattle.pledgor.specs.Calls as pledgor_calls
 use Rattle.pledgor.specs.Lots as posts
 use Rattle.pledgor.specs.Opening as pledgor-opening
+use Rattle.secured.proofs.Cover.{kept_covered, opened_kept}
+use Rattle.pledgor.proofs.Ranges.{opened_home, opened_ranged}
+use Rattle.pledgor.proofs.Tables.{repeated}
 use Rattle.accord.specs.Standing.{words, Standing, home}
 use Rattle.accord.specs.Accord.{Accord, Days}
 use Rattle.accord.specs.Agreement.{after, joined, Reached, opening, secured_call, pledgor_call, secured_booking, pledgor_booking, next_fits, any, returns, Agreement, BooksAgree}
 use Rattle.accord.specs.Joint.{AccordIsKept}
 use Rattle.accord.proofs.Days.{settled_latest}
-use Rattle.accord.proofs.Own.{repeated, opened_home, opened_ranged}
-use Rattle.accord.proofs.Cover.{kept_covered}
 use Rattle.accord.proofs.UnderWay.{has_new, new_brings, returned_returns, shown_same, shown_both, shown_or}
 use Rattle.accord.proofs.Accord.{passed, secured_fits, pledgor_fits, secured_books, pledgor_books, secured_issues, pledgor_issues}
 
@@ -40,20 +39,20 @@ use Rattle.accord.proofs.Accord.{passed, secured_fits, pledgor_fits, secured_boo
 opened_lot : (x : PledgorLot) (a : SecuredLot) → x.place ≡ Home → a ≡ Absent → Standing x [] a []
 opened_lot x a e q = subst (λ b. Standing x [] b []) (sym q) (subst (λ y. Standing (record { place = y; lot = x.lot }) [] Absent []) (sym e) home)
 
-opened_accord : (a b : Annex) (ls : List Lot) → a.terms ≡ b.terms → length ls ≤ 32 → every lot_fits ls ≡ true → Accord (secured-opening.opened a) (pledgor-opening.opened b ls) [] []
+opened_accord : (a b : Annex) (ls : List Lot) → a.terms ≡ b.terms → length ls ≤ 32 → list_all lot_fits ls ≡ true → Accord (secured-opening.opened a) (pledgor-opening.opened b ls) [] []
 opened_accord a b ls t n e = record {
   terms = t;
   lots = λ k. opened_lot (posts.lot_at (pledgor-opening.opened b ls) k) (holds.lot_at (secured-opening.opened a) k) (opened_home b ls k) (repeated 32 k Absent);
   days = inl (refl, tt);
-  kept = ((λ t. absurd (clash t)), (λ t. absurd (clash t)), (λ t. absurd (clash t)));
-  size = length-replicate 32 Absent;
+  kept = opened_kept a;
+  size = refl;
   ranged = opened_ranged b ls n e;
 }
 
 -- two books opened on equal terms are in accord
 pub opening_accords : (a b : Annex) (ls : List Lot) (p : PledgorState) → a.terms ≡ b.terms → pledgor-opening.opens b ls ≡ Ok p → Accord (secured-opening.opened a) p [] []
-opening_accords a b ls p t e = passed (λ q. Accord (secured-opening.opened a) q [] []) (leb (length ls) 32 && every lot_fits ls) (pledgor-opening.opened b ls) refusal.Lot p e (λ u.
-    let q = and_parts (leb (length ls) 32) (every lot_fits ls) u in
+opening_accords a b ls p t e = passed (λ q. Accord (secured-opening.opened a) q [] []) (leb (length ls) 32 && list_all lot_fits ls) (pledgor-opening.opened b ls) refusal.Lot p e (λ u.
+    let q = and_parts (leb (length ls) 32) (list_all lot_fits ls) u in
     opened_accord a b ls t (leb-true (length ls) 32 q.0) q.1)
 
 -- calls, refused or not

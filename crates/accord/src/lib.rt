@@ -6,15 +6,11 @@ ghost use Rattle.accord.specs.Agreement.{BooksAgree};
 ghost use Rattle.accord.specs.Joint.{AccordIsKept};
 
 /// Two books opened on equal terms agree, whatever is called at either end and whenever it is booked.
-pub fn books_agree() -> u8
+pub fn books_agree()
     ensures { BooksAgree }
-{
-    0
-}
+{}
 
 /// The relation behind it holds of two books as opened, and every call and every booking keeps it.
-pub fn accord_is_kept() -> u8
+pub fn accord_is_kept()
     ensures { AccordIsKept }
-{
-    0
-}
+{}

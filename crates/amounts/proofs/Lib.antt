@@ -1,2 +1,2 @@
-pub mod Balance
+pub mod Exact
 pub mod Values

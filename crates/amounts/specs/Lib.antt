@@ -1,3 +1,4 @@
 pub mod Amounts
 pub mod Lots
 pub mod Value
+pub mod Words

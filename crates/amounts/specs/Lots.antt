@@ -1,6 +1,6 @@
 -- The range of a lot, and which lots count.
 use Rattle.std.specs.Prelude.{Bool, true, ◌&&◌, List, length, Some, None, Option, nat_le, nat_lt}
-use Rattle.annex.specs.Every.{every}
+use Rattle.std.specs.List.{list_all}
 use Rattle.annex.specs.Terms.{within}
 use Rattle.amounts.specs.declared.lots.Lot.{Lot}
 use Rattle.amounts.specs.declared.lots.Place.{Place}
@@ -20,6 +20,13 @@ counts_at_secured (Held l) = Some l
 counts_at_secured (OwedBack l) = None
 counts_at_secured (DeclineOwed l) = Some l
 
+-- the lot of an entry of the secured end, in any state but absent
+abbrev pub lot_of : SecuredLot → Option Lot
+lot_of Absent = None
+lot_of (Held l) = Some l
+lot_of (OwedBack l) = Some l
+lot_of (DeclineOwed l) = Some l
+
 abbrev counts_at : Place → Lot → Option Lot
 counts_at Home l = None
 counts_at Posted l = Some l
@@ -36,4 +43,4 @@ counted_fits (Some l) = lot_fits l
 
 -- a table has at most 32 lots, and those that count are in range
 abbrev pub table_fits : {H : Type 0} → (H → Option Lot) → List H → Bool
-table_fits counts hs = nat_le (length hs) 32 && every (λ h. counted_fits (counts h)) hs
+table_fits counts hs = nat_le (length hs) 32 && list_all (λ h. counted_fits (counts h)) hs

@@ -4,7 +4,7 @@ use Rattle.refusal.specs.declared.Refusal.{Refusal}
 use Rattle.refusal.specs.declared.Refusal.TheVariants as refused
 use Rattle.annex.specs.declared.row.Row.{Row}
 use Rattle.annex.specs.declared.terms.Terms.{Terms}
-use Rattle.annex.specs.Every.{every}
+use Rattle.std.specs.List.{list_all}
 use Rattle.annex.specs.Row.{price_fits}
 use Rattle.amounts.specs.declared.lots.Lot.{Lot}
 use Rattle.amounts.specs.Lots.{lot_fits, table_fits}
@@ -29,7 +29,7 @@ total_of counts t r hs = sum_by (λ h. adds t r (counts h)) hs
 
 -- the answer where prices are tested: 12 where one is out of range
 abbrev if_priced : Row → ℕ → Result ℕ Refusal
-if_priced r v = cond (every price_fits r.prices) (Ok v) (Err refused.Row)
+if_priced r v = cond (list_all price_fits r.prices) (Ok v) (Err refused.Row)
 
 -- a lot's Value, or 10 for the lot, or 12 for a price
 abbrev pub valued : Terms → Row → Lot → Result ℕ Refusal

@@ -6,6 +6,6 @@ pub mod lots;
 pub mod valuing;
 pub mod weighing;
 
-pub use lots::{Holding, Lot, Place, PledgorLot, SecuredLot};
+pub use lots::{Holding, Lot, Place, PledgorLot, SecuredLot, UnknownPlace};
 pub use valuing::{total, value};
-pub use weighing::{Amounts, Notice, due, weigh};
+pub use weighing::{Amounts, Notice, adjusted, amount_due, amounts_of, due, weigh};

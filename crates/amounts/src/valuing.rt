@@ -1,14 +1,13 @@
 //! What lots are worth on a day.
 ghost use Rattle.std.specs.Prelude.{◌≡◌, ℕ, ◌*◌, ◌<◌, ◌≤◌, true, IfOk};
-ghost use Rattle.annex.specs.Every.{every};
+ghost use Rattle.std.specs.List.{list_all};
 ghost use Rattle.annex.specs.Row.{price_fits};
-ghost use Rattle.annex.specs.Terms.{terms_fit};
 ghost use Rattle.amounts.specs.Lots.{counted_fits, lot_fits, table_fits as TableFits};
 ghost use Rattle.amounts.specs.Value.{lot_value, total_of, totalled, value_of, valued};
 
 use crate::lots::{Holding, Lot};
 use annex::row::prices_fit;
-use annex::{Annex, Row, Terms};
+use annex::{Annex, Row};
 use refusal::Refusal;
 
 /// The most lots that a table may have.
@@ -28,16 +27,18 @@ fn worth(face: u64, price: Option<u32>, percentage: u32) -> u64
 }
 
 // What a fit lot is worth by a fit row.
-fn lot_value(terms: &Terms, row: &Row, lot: &Lot) -> u64
-    requires terms_fit { terms_fit terms.now ≡ true }
-    requires prices_fit { every price_fits row.now.prices ≡ true }
+#[tactic(auto, using(crate::proofs::Values::lot_value_within))]
+fn lot_value(annex: &Annex, row: &Row, lot: &Lot) -> u64
+    requires prices_fit { list_all price_fits row.now.prices ≡ true }
     requires lot_fits { lot_fits lot.now ≡ true }
-    ensures value { result ≡ lot_value terms.now row.now lot.now }
+    ensures value { result ≡ lot_value annex.now.terms row.now lot.now }
     ensures bound { result ≤ 2 * lot.now.face }
 {
-    let class = lot.class as usize;
-    worth(lot.face, row.prices[class], terms.percentages[class])
+    let class = usize::from(lot.class);
+    worth(lot.face, row.prices[class], annex.terms.percentages[class])
 }
+
+// Annex and row stand side by side: one type of both would test prices before the lot, whose refusal comes first.
 
 /// The Value of a lot by a row: face × price × percentage, rounded down once, and zero without a price.
 /// Refused where the lot is out of range, then where a price is.
@@ -51,45 +52,36 @@ pub fn value(annex: &Annex, row: &Row, lot: &Lot) -> Result<u64, Refusal>
     if !prices_fit(&row.prices) {
         return Err(Refusal::Row);
     }
-    Ok(lot_value(&annex.terms(), row, lot))
+    Ok(lot_value(annex, row, lot))
 }
 
-fn counted_fits(counted: Option<Lot>) -> bool
-    ensures { result ≡ counted_fits counted }
+// Whether the lots that count are in range.
+fn all_fit<H: Holding>(lots: &[H]) -> bool
+    ensures { result ≡ list_all (λ h. counted_fits (H.Holding.counts h)) lots.now }
 {
-    match counted {
-        Some(lot) => lot.fits(),
-        None => true,
-    }
+    lots.iter()
+        .all(|entry| entry.counted().is_none_or(|lot| lot.fits()))
 }
 
 // Whether there are at most 32 lots, and those that count are in range.
 fn table_fits<H: Holding>(lots: &[H]) -> bool
     ensures { result ≡ TableFits H.Holding.counts lots.now }
 {
-    if lots.len() > MOST_LOTS {
-        return false;
-    }
-    for entry in lots {
-        if !counted_fits(entry.counted()) {
-            return false;
-        }
-    }
-    true
+    lots.len() <= MOST_LOTS && all_fit(lots)
 }
 
-// The sum of the Values of all lots that count, each lot once.
-fn sum<H: Holding>(terms: &Terms, row: &Row, lots: &[H]) -> u64
-    requires terms_fit { terms_fit terms.now ≡ true }
-    requires prices_fit { every price_fits row.now.prices ≡ true }
+// The sum of the Values of all lots that count, each lot once. One `for` over the table is how both ends sum V: a
+// chain's `sum` would leave the bound on the partial sums open.
+fn sum<H: Holding>(annex: &Annex, row: &Row, lots: &[H]) -> u64
+    requires prices_fit { list_all price_fits row.now.prices ≡ true }
     requires table_fits { TableFits H.Holding.counts lots.now ≡ true }
-    ensures value { result ≡ total_of H.Holding.counts terms.now row.now lots.now }
+    ensures value { result ≡ total_of H.Holding.counts annex.now.terms row.now lots.now }
     ensures bound { result ≤ 640000000000 }
 {
     let mut sum = 0;
     for entry in lots {
         if let Some(lot) = entry.counted() {
-            sum += lot_value(terms, row, &lot);
+            sum += lot_value(annex, row, &lot);
         }
     }
     sum
@@ -107,5 +99,5 @@ pub fn total<H: Holding>(annex: &Annex, row: &Row, lots: &[H]) -> Result<u64, Re
     if !prices_fit(&row.prices) {
         return Err(Refusal::Row);
     }
-    Ok(sum(&annex.terms(), row, lots))
+    Ok(sum(annex, row, lots))
 }

@@ -1,4 +1,3 @@
-pub mod Every
 pub mod Row
 pub mod Schedule
 pub mod Terms

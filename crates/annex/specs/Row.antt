@@ -3,7 +3,7 @@ use Rattle.std.specs.Prelude.{ℕ, Bool, true, cond, ◌&&◌, ℤ, pos, negsuc,
 use Rattle.refusal.specs.declared.Refusal.{Refusal}
 use Rattle.refusal.specs.declared.Refusal.TheVariants as refused
 use Rattle.annex.specs.declared.row.Row.{Row}
-use Rattle.annex.specs.Every.{every}
+use Rattle.std.specs.List.{list_all}
 use Rattle.annex.specs.Terms.{within}
 
 -- a day is from 1 to 10^9
@@ -21,7 +21,7 @@ price_fits (Some p) = nat_le p 20000
 
 -- a row in range, at its exposure
 abbrev pub row_fits : Row → ℤ → Bool
-row_fits r e = day_fits r.day && (exposure_fits e && every price_fits r.prices)
+row_fits r e = day_fits r.day && (exposure_fits e && list_all price_fits r.prices)
 
 -- the same by the exposure that the row tells
 abbrev pub checked_at : Row → Option ℤ → Result ℤ Refusal

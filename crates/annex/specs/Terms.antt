@@ -1,6 +1,6 @@
 -- The ranges of the terms.
 use Rattle.std.specs.Prelude.{ℕ, Bool, ◌&&◌, nat_le}
-use Rattle.annex.specs.Every.{every}
+use Rattle.std.specs.List.{list_all}
 use Rattle.annex.specs.declared.terms.Terms.{Terms}
 
 -- from the first number to the second, both included
@@ -19,4 +19,4 @@ terms_fit t =
     && (within 1 1000000000000 t.secured_minimum
     && (nat_le t.pledgor_independent 1000000000000
     && (nat_le t.secured_independent 1000000000000
-    && every percentage_fits t.percentages))))
+    && list_all percentage_fits t.percentages))))

@@ -7,8 +7,8 @@ use crate::terms::Terms;
 mod opens;
 
 /// Agreed terms: every number is in its range.
-#[derive(Clone, Copy)]
+#[derive(Clone, Copy, PartialEq, Eq, Debug)]
 pub struct Annex {
-    pub(crate) terms: Terms,
-    ghost fit: { terms_fit terms ≡ true },
+    pub terms: Terms,
+    pub ghost fit: { terms_fit terms ≡ true },
 }

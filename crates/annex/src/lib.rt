@@ -3,10 +3,12 @@
 #![tactic(auto)]
 
 pub mod agreed;
+pub mod exposure;
 pub mod row;
 pub mod schedule;
 pub mod terms;
 
 pub use agreed::Annex;
+pub use exposure::Exposure;
 pub use row::Row;
-pub use terms::Terms;
+pub use terms::{CLASSES, Terms};

@@ -1,7 +1,13 @@
 //! The terms that the parties sign. Terms can hold unfit numbers, so that they can be refused.
 
+/// How many classes of collateral there are.
+pub const CLASSES: usize = 8;
+
+/// The whole of a face, in hundredths of a percent.
+pub(crate) const PAR: u32 = 10_000;
+
 /// The agreed numbers, in hundredths of the base currency; percentages in hundredths of a percent.
-#[derive(Clone, Copy)]
+#[derive(Clone, Copy, PartialEq, Eq, Debug)]
 pub struct Terms {
     /// The exposure up to which nothing is called: 0 to 10^13.
     pub threshold: u64,
@@ -14,5 +20,5 @@ pub struct Terms {
     /// What the secured party owes on top of exposure: 0 to 10^12.
     pub secured_independent: u64,
     /// The valuation percentage of each of the eight classes: 0 to 10,000.
-    pub percentages: [u32; 8],
+    pub percentages: [u32; CLASSES],
 }

@@ -2,7 +2,6 @@
 //! Reads and writes one message. Knows nothing of the trailer.
 #![tactic(auto)]
 
-mod fields;
 pub mod read;
 pub mod write;
 

@@ -3,11 +3,8 @@ ghost use Rattle.std.specs.Prelude.{◌≡◌};
 ghost use Rattle.body.specs.Laws.{BodiesReadBack, BodiesReadOnce};
 ghost use Rattle.body.specs.Reading.{Parsed, ReadsMessage};
 
-use crate::fields::{
-    read_day, read_day_amount, read_day_exposure, read_day_lot, read_delivery, read_lot,
-    read_money, read_substitute,
-};
 use message::Message;
+use octets::exactly;
 use refusal::Refusal;
 
 /// The message of a body, whatever the values of its fields.
@@ -17,13 +14,14 @@ fn parse(body: &[u8]) -> Option<Message>
     let [kind, fields @ ..] = body else {
         return None;
     };
+    // The enum of the kinds is `Message` itself, so a kind is read by its number.
     match *kind {
         0x01 => {
-            let (day, exposure) = read_day_exposure(fields)?;
+            let (day, exposure) = exactly(fields)?;
             Some(Message::Quiet { day, exposure })
         }
         0x02 => {
-            let (day, exposure, amount) = read_money(fields)?;
+            let (day, (exposure, amount)) = exactly(fields)?;
             Some(Message::Call {
                 day,
                 exposure,
@@ -31,7 +29,7 @@ fn parse(body: &[u8]) -> Option<Message>
             })
         }
         0x03 => {
-            let (day, exposure, amount) = read_money(fields)?;
+            let (day, (exposure, amount)) = exactly(fields)?;
             Some(Message::Offer {
                 day,
                 exposure,
@@ -39,15 +37,15 @@ fn parse(body: &[u8]) -> Option<Message>
             })
         }
         0x04 => {
-            let day = read_day(fields)?;
+            let day = exactly(fields)?;
             Some(Message::Agree { day })
         }
         0x05 => {
-            let (day, amount) = read_day_amount(fields)?;
+            let (day, amount) = exactly(fields)?;
             Some(Message::Dispute { day, amount })
         }
         0x06 => {
-            let (day, exposure, amount) = read_money(fields)?;
+            let (day, (exposure, amount)) = exactly(fields)?;
             Some(Message::Resolve {
                 day,
                 exposure,
@@ -55,7 +53,7 @@ fn parse(body: &[u8]) -> Option<Message>
             })
         }
         0x07 => {
-            let (day, lot, class, face) = read_delivery(fields)?;
+            let (day, (lot, (class, face))) = exactly(fields)?;
             Some(Message::Delivery {
                 day,
                 lot,
@@ -64,7 +62,7 @@ fn parse(body: &[u8]) -> Option<Message>
             })
         }
         0x08 => {
-            let (lot, class, face, old) = read_substitute(fields)?;
+            let (lot, (class, (face, old))) = exactly(fields)?;
             Some(Message::Substitute {
                 lot,
                 class,
@@ -73,38 +71,41 @@ fn parse(body: &[u8]) -> Option<Message>
             })
         }
         0x09 => {
-            let (day, lot) = read_day_lot(fields)?;
+            let (day, lot) = exactly(fields)?;
             Some(Message::Ask { day, lot })
         }
         0x0A => {
-            let lot = read_lot(fields)?;
+            let lot = exactly(fields)?;
             Some(Message::Return { lot })
         }
         0x0B => {
-            let lot = read_lot(fields)?;
+            let lot = exactly(fields)?;
             Some(Message::Decline { lot })
         }
         0x0C => {
-            let day = read_day(fields)?;
+            let day = exactly(fields)?;
             Some(Message::Satisfied { day })
         }
         0x0E => {
-            let day = read_day(fields)?;
+            let day = exactly(fields)?;
             Some(Message::Release { day })
         }
         _ => None,
     }
 }
 
-fn read_judged(number: u64, body: &[u8]) -> Result<Message, Refusal>
-    ensures { ReadsMessage number body.now result }
+/// The message in the body of the frame with this number. Refused by 3, with that number and the
+/// position of what is unfit: 0 for the kind and the length, else the first unfit field.
+#[tactic(auto, using(crate::proofs::Once::bodies_read_once, crate::proofs::Once::bodies_read_back))]
+pub fn read_message(number: u64, body: &[u8]) -> Result<Message, Refusal>
+    ensures reads { ReadsMessage number body.now result }
+    ensures once { BodiesReadOnce }
+    ensures back { BodiesReadBack }
 {
-    let Some(message) = parse(body) else {
-        return Err(Refusal::Body {
-            message: number,
-            position: 0,
-        });
-    };
+    let message = parse(body).ok_or(Refusal::Body {
+        message: number,
+        position: 0,
+    })?;
     match message.unfit() {
         Some(position) => Err(Refusal::Body {
             message: number,
@@ -112,14 +113,4 @@ fn read_judged(number: u64, body: &[u8]) -> Result<Message, Refusal>
         }),
         None => Ok(message),
     }
-}
-
-/// The message in the body of the frame with this number. Refused by 3, with that number and the
-/// position of what is unfit: 0 for the kind and the length, else the first unfit field.
-pub fn read_message(number: u64, body: &[u8]) -> Result<Message, Refusal>
-    ensures reads { ReadsMessage number body.now result }
-    ensures once { BodiesReadOnce }
-    ensures back { BodiesReadBack }
-{
-    read_judged(number, body)
 }

@@ -1,23 +1,22 @@
 -- Posting and collecting keep a meaning sound, keep its places, and never add to its faults left.
-use Rattle.std.proofs.Common.{◌≡◌, ℕ, suc, ◌<◌, ◌≤◌, true, List, [], ◌∷◌, ◌++◌, length, get_or, take, drop, IfSome, Some, None, Ok, Err, Option, sym, refl, ap, ◌∙◌, subst, arith, length-append}
-use Rattle.std.proofs.lemmas.List.{take_at}
-use Rattle.carrier.specs.Laws.{ActsMakeNoFrame, Among, CarriersStand, CollectingKeeps, CollectingWithoutAFall, Kept, PostingKeeps, PostingWithoutAFall}
-use Rattle.carrier.specs.Means.{Act, Acts, All, Fit, Means, Sound}
+use Rattle.std.proofs.Common.{◌≡◌, ℕ, ◌≤◌, true, List, [], ◌∷◌, ◌++◌, length, get_or, take, drop, Some, None, Ok, Err, Option, sym, refl, ap, ◌∙◌, subst, arith, length-append}
+use Rattle.std.specs.List.{All, Contains}
+use Rattle.std.proofs.lemmas.List.{get_or_default, take_at}
+use Rattle.std.proofs.lemmas.List.Elements.{All-head, All-nil, All-push, All-tail}
+use Rattle.carrier.specs.Laws.{ActsMakeNoFrame, CarriersStand, CollectingKeeps, CollectingWithoutAFall, Kept, PostingKeeps, PostingWithoutAFall}
+use Rattle.carrier.specs.Means.{Act, Acts, Fit, Means, Sound}
 use Rattle.carrier.specs.Rules.{Gathered, Joined, Taken}
-use Rattle.carrier.proofs.Fits.{all_acts, all_append, room_acts}
+use Rattle.carrier.proofs.Fits.{all_acts, room_acts}
 
 pub kept_refl : {m : Means} → Sound m → Kept m m
 kept_refl s = record { sound = s; fewer = omega arith; same = refl }
 
-pub kept_trans : {m n o : Means} → Kept m n → Kept n o → Kept m o
-kept_trans h k = record { sound = k.sound; fewer = omega arith; same = k.same ∙ h.same }
-
 -- what is left when the first frame left
 left : (P : List ℕ → Type 0) (ws : List (List ℕ)) (buffer : List ℕ) (o : Option ℕ) (rest : List (List ℕ)) (filled : List ℕ) → All P ws → Taken ws buffer o rest filled → All P rest × (length rest ≤ length ws)
-left P [] buffer None rest filled all t = rw t.0 (tt, omega arith)
+left P [] buffer None rest filled all t = rw t.0 (All-nil P, omega arith)
 left P [] buffer (Some n) rest filled all t = absurd t
 left P (f ∷ fs) buffer None rest filled all t = absurd t
-left P (f ∷ fs) buffer (Some n) rest filled all t = rw t.1 (all.1, omega arith)
+left P (f ∷ fs) buffer (Some n) rest filled all t = rw t.1 (All-tail P f fs all, omega arith)
 
 -- the frames between the acts and the leaving
 between_fit : {m : Means} {buffer : List ℕ} {o : Option ℕ} {n : Means} {filled : List ℕ} → Sound m → (k : Gathered m buffer o n filled) → All Fit k.between
@@ -35,7 +34,7 @@ collecting_keeps m buffer (Err e) n filled s k = subst (λ (o : Means). Kept m o
 
 joined_keeps : {m : Means} {f : List ℕ} {n : Means} → Sound m → Joined m f n → Kept m n
 joined_keeps {m} {f} {n} s k =
-    let start : All Fit (m.waiting ++ (f ∷ [])) = all_append Fit m.waiting (f ∷ []) s.frames (k.fit, tt) in
+    let start : All Fit (m.waiting ++ (f ∷ [])) = All-push Fit m.waiting f s.frames k.fit in
     let all = all_acts Fit m.places k.acts (m.waiting ++ (f ∷ [])) n.waiting k.waits start in
     let few = room_acts m.places k.acts (m.waiting ++ (f ∷ [])) n.waiting k.waits (omega (arith, length-append m.waiting (f ∷ []), k.room)) in
     record { sound = record { frames = all; some_place = omega (arith, k.same_places, s.some_place); room = omega (arith, k.same_places, few) }; fewer = omega (arith, k.spent); same = k.same_places }
@@ -56,13 +55,8 @@ pub plain_collect : CollectingWithoutAFall
 plain_collect m buffer o n filled k e =
     subst (λ (ws : List (List ℕ)). Taken ws buffer o n.waiting filled) (no_acts m.places k.acts m.waiting k.between (omega (arith, k.spent, e)) k.waits) k.taken
 
--- each frame of a list stands in it
-all_among : (ws : List (List ℕ)) (P : List ℕ → Type 0) → ((k : ℕ) → k < length ws → P (get_or ws k [])) → All P ws
-all_among [] P at = tt
-all_among (w ∷ ws) P at = (at 0 (omega arith), all_among ws P (λ k h. at (suc k) (omega arith)))
-
 none_made : ActsMakeNoFrame
-none_made places acts ws vs e = all_acts (Among ws) places acts ws vs e (all_among ws (Among ws) (λ k h. (k, h, refl)))
+none_made places acts ws vs e = all_acts (Contains ws) places acts ws vs e (λ k d h. (k, h, get_or_default ws k (get_or ws k d) d h))
 
 pub carriers_stand : CarriersStand
 carriers_stand =
@@ -76,20 +70,10 @@ carriers_stand =
       plain_collect = plain_collect;
     }
 
--- a collected frame has 1 to 64 bytes
-fit_length : (ws : List (List ℕ)) (buffer : List ℕ) (o : Option ℕ) (rest : List (List ℕ)) (filled : List ℕ) → All Fit ws → Taken ws buffer o rest filled → IfSome o (λ n. (1 ≤ n) × (n ≤ 64))
-fit_length [] buffer None rest filled all t = tt
-fit_length [] buffer (Some n) rest filled all t = absurd t
-fit_length (f ∷ fs) buffer None rest filled all t = tt
-fit_length (f ∷ fs) buffer (Some n) rest filled all t = (omega (arith, all.0.0, t.0), omega (arith, all.0.1, t.0))
-
-pub gathered_length : {m : Means} {buffer : List ℕ} {o : Option ℕ} {n : Means} {filled : List ℕ} → Sound m → Gathered m buffer o n filled → IfSome o (λ n. (1 ≤ n) × (n ≤ 64))
-gathered_length {m} {buffer} {o} {n} {filled} s k = fit_length k.between buffer o n.waiting filled (between_fit s k) k.taken
-
 -- what stands in the buffer's front is a frame of 1 to 64 bytes
 fit_frame : (ws : List (List ℕ)) (buffer : List ℕ) (n : ℕ) (rest : List (List ℕ)) (filled : List ℕ) → All Fit ws → Taken ws buffer (Some n) rest filled → Fit (take n filled)
 fit_frame [] buffer n rest filled all t = absurd t
-fit_frame (f ∷ fs) buffer n rest filled all t = subst Fit (sym (ap (take n) t.2 ∙ take_at f (drop (length f) buffer) n (sym t.0))) all.0
+fit_frame (f ∷ fs) buffer n rest filled all t = subst Fit (sym (ap (take n) t.2 ∙ take_at f (drop (length f) buffer) n (sym t.0))) (All-head Fit f fs all)
 
 pub gathered_frame : {m : Means} {buffer : List ℕ} {n : ℕ} {o : Means} {filled : List ℕ} → Sound m → Gathered m buffer (Some n) o filled → Fit (take n filled)
 gathered_frame {m} {buffer} {n} {o} {filled} s k = fit_frame k.between buffer n o.waiting filled (between_fit s k) k.taken

@@ -1,20 +1,17 @@
 -- What holds of every carrier, whatever its faults do.
-use Rattle.std.specs.Prelude.{◌≡◌, ℕ, ◌<◌, ◌≤◌, Bool, true, List, [], ◌∷◌, ◌++◌, length, Ok, Option, Result, slice_index_or}
+use Rattle.std.specs.Prelude.{◌≡◌, ℕ, ◌≤◌, Bool, true, List, [], ◌∷◌, ◌++◌, length, Ok, Option, Result}
+use Rattle.std.specs.List.{All, Contains}
 use Rattle.refusal.specs.declared.Refusal.{Refusal}
-use Rattle.carrier.specs.Means.{Act, Acts, All, Means, Sound}
+use Rattle.carrier.specs.Means.{Act, Acts, Means, Sound}
 use Rattle.carrier.specs.Rules.{Collected, Posted, Taken}
-
--- a frame stands somewhere in a list
-abbrev pub Among : List (List ℕ) → List ℕ → Type 0
-Among ws f = (k : ℕ) × (k < length ws) × (f ≡ slice_index_or ws k [])
 
 -- acts keep what holds of every waiting frame, for any test
 abbrev pub ActsKeepWhatAllPass : Type 0
 ActsKeepWhatAllPass = (test : List ℕ → Bool) (places : ℕ) (acts : List Act) (ws vs : List (List ℕ)) → Acts places acts ws vs → All (λ f. test f ≡ true) ws → All (λ f. test f ≡ true) vs
 
--- acts make no frame of their own, so they keep any property at all
+-- acts make no frame of their own: each frame that waits after them is one that waited before, so they keep any property at all
 abbrev pub ActsMakeNoFrame : Type 0
-ActsMakeNoFrame = (places : ℕ) (acts : List Act) (ws vs : List (List ℕ)) → Acts places acts ws vs → All (Among ws) vs
+ActsMakeNoFrame = (places : ℕ) (acts : List Act) (ws vs : List (List ℕ)) → Acts places acts ws vs → All (Contains ws) vs
 
 -- acts keep the room
 abbrev pub ActsKeepRoom : Type 0

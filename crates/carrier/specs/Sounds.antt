@@ -1,12 +1,15 @@
 -- That what a carrier of this crate means is well formed.
-use Rattle.std.specs.Prelude.{◌≤◌, List, [], ◌∷◌, map, length, Some, None, Option}
+use Rattle.std.specs.Prelude.{◌≤◌, List, map, length, Some, None, Option, slice_index_or}
+use Rattle.std.specs.List.{All}
+use Rattle.std.specs.Option.{option_to_list}
 use Rattle.std.proofs.Common.{arith}
 use Rattle.std.proofs.lemmas.List.{length-take-le}
+use Rattle.std.proofs.lemmas.List.Elements.{All-map}
 use Rattle.carrier.specs.declared.frame.Frame.{Frame}
 use Rattle.carrier.specs.declared.slip.Slip.{Slip}
 use Rattle.carrier.specs.Held.{held}
-use Rattle.carrier.specs.Means.{All, Fit, Sound}
-use Rattle.carrier.specs.SlipMeans.{at_most_one, slip_means}
+use Rattle.carrier.specs.Means.{Fit, Sound}
+use Rattle.carrier.specs.SlipMeans.{slip_means}
 
 -- a frame holds 1 to 64 bytes, since its own invariant says so
 pub frame_fits : (f : Frame) → Fit (held f)
@@ -15,12 +18,11 @@ frame_fits f =
     (omega (arith, e, f.some), omega (arith, e, f.fits))
 
 pub frames_fit : (fs : List Frame) → All Fit (map held fs)
-frames_fit [] = tt
-frames_fit (f ∷ fs) = (frame_fits f, frames_fit fs)
+frames_fit fs = All-map Fit held fs (λ k d h. frame_fits (slice_index_or fs k d))
 
-few : (o : Option Frame) → All Fit (at_most_one o) × (length (at_most_one o) ≤ 1)
-few None = (tt, omega arith)
-few (Some f) = ((frame_fits f, tt), omega arith)
+few : (o : Option Frame) → length (map held (option_to_list o)) ≤ 1
+few None = omega arith
+few (Some f) = omega arith
 
 pub slip_sound : (s : Slip) → Sound (slip_means s)
-slip_sound s = record { frames = (few s.waiting).0; some_place = omega arith; room = (few s.waiting).1 }
+slip_sound s = record { frames = frames_fit (option_to_list s.waiting); some_place = omega arith; room = few s.waiting }

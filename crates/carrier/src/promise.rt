@@ -27,15 +27,10 @@ pub trait Carrier {
 
 /// The longest frame of every carrier, in bytes, and the laws of every carrier: no act makes a frame,
 /// faults left never rises, and without a fall of it nothing is lost, copied or moved.
+#[tactic(auto, using(crate::proofs::Keep::carriers_stand))]
 pub fn carriers_stand() -> usize
     ensures answer { result ≡ 64 }
     ensures laws { CarriersStand }
-{
-    longest()
-}
-
-fn longest() -> usize
-    ensures { result ≡ 64 }
 {
     LONGEST_FRAME
 }

@@ -29,27 +29,21 @@ impl Carrier for Slip {
     ghost sound = { slip_sound };
 
     fn post(&mut self, frame: &[u8]) -> Result<(), Refusal> {
-        let frame = Frame::of(frame)?;
-        match self.waiting {
-            Some(_) => Err(Refusal::CarrierFull),
-            None => {
-                self.waiting = Some(frame);
-                Ok(())
-            }
+        let frame = Frame::try_from(frame)?;
+        if self.waiting.is_some() {
+            return Err(Refusal::CarrierFull);
         }
+        self.waiting = Some(frame);
+        Ok(())
     }
 
     fn collect(&mut self, buffer: &mut [u8]) -> Result<Option<usize>, Refusal> {
         if buffer.len() < LONGEST_FRAME {
             return Err(Refusal::SmallBuffer);
         }
-        match self.waiting {
-            None => Ok(None),
-            Some(frame) => {
-                let len = frame.fill(buffer)?;
-                self.waiting = None;
-                Ok(Some(len))
-            }
-        }
+        let Some(frame) = self.waiting.take() else {
+            return Ok(None);
+        };
+        Ok(Some(frame.fill(buffer)?))
     }
 }

@@ -1,5 +1,5 @@
 -- The states of a day, and what each allows.
-use Rattle.std.specs.Prelude.{Bool, true, false}
+use Rattle.std.specs.Prelude.{ℕ, Bool, true, false, List, codes}
 use Rattle.day.specs.declared.Day.{Day}
 use Rattle.day.specs.declared.DayState.{DayState}
 use Rattle.day.specs.declared.DayState.TheVariants.{Unset, Quiet, Called, Agreed, Disputed, Resolved, Offered, Released, Satisfied}
@@ -131,3 +131,15 @@ no_day = record { state = Unset; number = 0; amount = 0 }
 -- the same day in another state
 abbrev pub day_in : Day → DayState → Day
 day_in d x = record { state = x; number = d.number; amount = d.amount }
+
+-- the word of each state
+abbrev pub state_word : DayState → List ℕ
+state_word Unset = codes "unset"
+state_word Quiet = codes "quiet"
+state_word Called = codes "called"
+state_word Agreed = codes "agreed"
+state_word Disputed = codes "disputed"
+state_word Resolved = codes "resolved"
+state_word Offered = codes "offered"
+state_word Released = codes "released"
+state_word Satisfied = codes "satisfied"

@@ -2,13 +2,16 @@
 //! messages or books.
 #![tactic(auto)]
 
-ghost use Rattle.std.specs.Prelude.{◌≡◌};
-ghost use Rattle.day.specs.Days.{is_ended, is_open, is_settled, no_day};
+ghost use Rattle.std.specs.Prelude.{◌≡◌, Some};
+ghost use Rattle.day.specs.Days.{day_in, is_ended, is_open, is_settled, no_day, state_word};
+
+use std::fmt;
 
 /// How far a day has come at an end.
-#[derive(Clone, Copy)]
+#[derive(Clone, Copy, PartialEq, Eq, Debug, Default)]
 pub enum DayState {
     /// No day yet.
+    #[default]
     Unset,
     /// Nothing was called and nothing was offered.
     Quiet,
@@ -25,7 +28,8 @@ pub enum DayState {
 }
 
 /// The day in hand.
-#[derive(Clone, Copy)]
+// `Unset` and not an `Option<Day>`: a booking is one match on state and message, and any day is above number 0.
+#[derive(Clone, Copy, PartialEq, Eq, Debug, Default)]
 pub struct Day {
     pub state: DayState,
     /// 0 where there is no day yet.
@@ -39,40 +43,58 @@ impl Day {
     pub fn none() -> Day
         ensures { result ≡ no_day }
     {
-        Day {
-            state: DayState::Unset,
-            number: 0,
-            amount: 0,
-        }
+        Day::default()
+    }
+
+    /// The same day in another state.
+    pub fn in_state(&self, state: DayState) -> Day
+        ensures { result ≡ day_in self.now state }
+    {
+        Day { state, ..*self }
     }
 
     /// Whether a later day may begin.
     pub fn is_ended(&self) -> bool
         ensures { result ≡ is_ended self.now.state }
     {
-        match self.state {
-            DayState::Unset | DayState::Quiet | DayState::Satisfied => true,
-            _ => false,
-        }
+        matches!(
+            self.state,
+            DayState::Unset | DayState::Quiet | DayState::Satisfied
+        )
     }
 
     /// Whether deliveries of the day count for it.
     pub fn is_open(&self) -> bool
         ensures { result ≡ is_open self.now.state }
     {
-        match self.state {
-            DayState::Agreed | DayState::Disputed | DayState::Resolved => true,
-            _ => false,
-        }
+        matches!(
+            self.state,
+            DayState::Agreed | DayState::Disputed | DayState::Resolved
+        )
     }
 
     /// Whether the day is quiet or satisfied.
     pub fn is_settled(&self) -> bool
         ensures { result ≡ is_settled self.now.state }
     {
-        match self.state {
-            DayState::Quiet | DayState::Satisfied => true,
-            _ => false,
-        }
+        matches!(self.state, DayState::Quiet | DayState::Satisfied)
+    }
+}
+
+impl fmt::Display for DayState {
+    ghost output = { λ state. Some (state_word state) };
+
+    fn fmt<W: fmt::Write>(&self, f: &mut fmt::Formatter<W>) -> fmt::Result {
+        f.write_str(match self {
+            DayState::Unset => "unset",
+            DayState::Quiet => "quiet",
+            DayState::Called => "called",
+            DayState::Agreed => "agreed",
+            DayState::Disputed => "disputed",
+            DayState::Resolved => "resolved",
+            DayState::Offered => "offered",
+            DayState::Released => "released",
+            DayState::Satisfied => "satisfied",
+        })
     }
 }

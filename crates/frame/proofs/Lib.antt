@@ -1,4 +1,3 @@
 pub mod Trailers
-pub mod Parts
 pub mod Once
 pub mod Written

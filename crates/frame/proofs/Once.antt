@@ -1,20 +1,20 @@
 -- Reading has one answer, and a frame that is fit to send reads as itself.
-use Rattle.std.proofs.Common.{◌≡◌, ℕ, ◌+◌, ◌^◌, ◌<◌, ◌≤◌, true, ◌⊎◌, List, [], ◌++◌, length, None, Ok, Err, Result, sym, refl, ap, ◌∙◌, subst, inl, inr, arith}
+use Rattle.std.proofs.Common.{◌≡◌, ℕ, ◌+◌, ◌<◌, ◌≤◌, ◌⊎◌, List, [], ◌++◌, length, None, Ok, Err, Result, sym, refl, ap, ◌∙◌, subst, inl, inr, arith}
 use Rattle.std.proofs.lemmas.List.{length-append}
 use Rattle.std.proofs.lemmas.Bool.{eq-eqb}
+use Rattle.std.proofs.lemmas.Bool.Decides.{nat_tests}
 use Rattle.refusal.specs.declared.Refusal.{Refusal}
-use Rattle.refusal.specs.declared.Refusal.TheVariants as refusal
 use Rattle.message.specs.declared.Message.{Message}
 use Rattle.message.specs.Bodies.{body_of}
-use Rattle.message.proofs.Within.{clash, typed, upper}
+use Rattle.message.proofs.Within.{typed}
 use Rattle.message.proofs.Inverse.{same_message, body_length}
-use Rattle.body.proofs.Once.{never_unread, one_unread, same_some}
+use Rattle.body.proofs.Once.{never_unread, one_unread}
 use Rattle.frame.specs.declared.Frame.{Frame}
 use Rattle.frame.specs.declared.Frame.TheVariants as frame
 use Rattle.frame.specs.declared.Packet.{Packet}
 use Rattle.frame.specs.declared.Packet.TheVariants.{Data, Acknowledgement}
 use Rattle.frame.specs.declared.layout.Trailer.{Trailer}
-use Rattle.frame.specs.Layout.{acknowledgement_fits, alone_trailer, longest_frame, trailer_bytes, trailer_length, TypedTrailer, unfit_trailer}
+use Rattle.frame.specs.Layout.{alone_trailer, longest_frame, trailer_bytes, trailer_length, TypedTrailer, unfit_trailer}
 use Rattle.frame.specs.Packets.{BodyUnfit, PartUnfit, Reads, ReadsFrame, Refused, Sendable, Splits, trailer_of, written}
 use Rattle.frame.specs.Laws.{FramesDiffer, FramesReadBack, FramesReadOnce, ReadsBack, ReadsOnce, Said, data_with, said, said_by}
 use Rattle.frame.proofs.Trailers.{length_trailer, same_parts}
@@ -40,15 +40,9 @@ pub written_short : (p : Packet) → (trailer_length ≤ length (written p)) × 
 written_short (Data n a m) = let l = length_written (Data n a m) in let b = body_length m in (omega arith, omega arith)
 written_short (Acknowledgement a) = let l = length_written (Acknowledgement a) in (omega arith, omega arith)
 
-acknowledgement_typed : (a : ℕ) → acknowledgement_fits a ≡ true → a < 256 ^ 4
-acknowledgement_typed a f = let u = upper 1 1000001 a f in omega arith
-
 pub typed_in : (p : Packet) → Sendable p → TypedTrailer (trailer_in p)
-typed_in (Data n a m) f =
-    let u = upper 1 1000000 n f.0 in
-    let b = body_length m in
-    (omega arith, acknowledgement_typed a f.1, omega arith)
-typed_in (Acknowledgement a) f = (omega arith, acknowledgement_typed a f, omega arith)
+typed_in (Data n a m) f = let b = body_length m in grind (arith, nat_tests)
+typed_in (Acknowledgement a) f = grind (arith, nat_tests)
 
 pub data_fits : (n a : ℕ) (m : Message) → Sendable (Data n a m) → unfit_trailer (length (body_of m) + trailer_length) (trailer_of n a m) ≡ None
 data_fits n a m f = rw (f.0, f.1, eq-eqb (length (body_of m) + trailer_length) (length (body_of m) + trailer_length) refl)
@@ -86,7 +80,7 @@ short_or_long bs low high (inl h) = omega arith
 short_or_long bs low high (inr h) = omega arith
 
 part_fits : (p : Packet) (e : Refusal) (body : List ℕ) (t : Trailer) → Sendable p → body_in p ≡ body → trailer_in p ≡ t → PartUnfit (length (written p)) body t e → ⊥
-part_fits p e body t f b s (inl y) = clash (fits_in p f) (ap (unfit_trailer (length (written p))) s ∙ y.1)
+part_fits p e body t f b s (inl y) = let u = fits_in p f in let v = ap (unfit_trailer (length (written p))) s ∙ y.1 in cc
 part_fits p e body t f b s (inr y) =
     body_fits p y.0 f (subst (λ (l : List ℕ). BodyUnfit (trailer_in p) l y.0) (sym b) (subst (λ (u : Trailer). BodyUnfit u body y.0) (sym s) y.2))
 
@@ -110,17 +104,11 @@ one_body_fault t body p q (inl x) (inr y) = let a = x.0 in let b = y.0 in let z 
 one_body_fault t body p q (inr x) (inl y) = let a = x.0 in let b = y.0 in let z : ⊥ = omega arith in absurd z
 one_body_fault t body p q (inr x) (inr y) = one_unread body p q x.1 y.1
 
-same_trailer_fault : (k p q : ℕ) (e d : Refusal) → e ≡ refusal.Trailer (k + p) → d ≡ refusal.Trailer (k + q) → p ≡ q → e ≡ d
-same_trailer_fault k p q e d x y z = cc
-
-same_body_fault : (n p q : ℕ) (e d : Refusal) → e ≡ refusal.Body n p → d ≡ refusal.Body n q → p ≡ q → e ≡ d
-same_body_fault n p q e d x y z = cc
-
 one_part : (len : ℕ) (body : List ℕ) (t : Trailer) (e d : Refusal) → PartUnfit len body t e → PartUnfit len body t d → e ≡ d
-one_part len body t e d (inl x) (inl y) = same_trailer_fault (length body) x.0 y.0 e d x.2.0 y.2.0 (same_some (unfit_trailer len t) x.0 y.0 x.1 y.1)
-one_part len body t e d (inl x) (inr y) = absurd (clash y.1 x.1)
-one_part len body t e d (inr x) (inl y) = absurd (clash x.1 y.1)
-one_part len body t e d (inr x) (inr y) = same_body_fault t.number x.0 y.0 e d x.3.0 y.3.0 (one_body_fault t body x.0 y.0 x.2 y.2)
+one_part len body t e d (inl (p, u, (f, x))) (inl (q, v, (g, y))) = cc
+one_part len body t e d (inl (p, u, (f, x))) (inr (q, v, k, (g, y))) = cc
+one_part len body t e d (inr (p, u, h, (f, x))) (inl (q, v, (g, y))) = cc
+one_part len body t e d (inr (p, u, h, (f, x))) (inr (q, v, k, (g, y))) = let same = one_body_fault t body p q h k in cc
 
 one_refusal : (bs : List ℕ) (e d : Refusal) → Refused bs e → Refused bs d → e ≡ d
 one_refusal bs e d (inl x) (inl y) = x.1.0 ∙ sym y.1.0

@@ -1,10 +1,9 @@
 -- A trailer back from its bytes, and what a fit one is.
 use Rattle.std.proofs.Common.{◌≡◌, ℕ, ◌+◌, ◌*◌, true, ◌||◌, eqb, List, ◌++◌, length, get_or, take, drop, None, sym, refl, ap, ◌∙◌, arith}
 use Rattle.std.proofs.lemmas.List.{length-append, take_at, append_cancel_left}
-use Rattle.std.proofs.lemmas.Bool.{eqb-true}
 use Rattle.octets.specs.Numbers.{bytes_of, value}
 use Rattle.octets.proofs.Widths.{value_bytes_of}
-use Rattle.message.proofs.Within.{unless_none}
+use Rattle.std.proofs.lemmas.Bool.Decides.{nat_tests}
 use Rattle.frame.specs.declared.layout.Trailer.{Trailer}
 use Rattle.frame.specs.Layout.{acknowledgement_fits, alone_tag, data_tag, number_fits, number_width, trailer_bytes, trailer_length, TypedTrailer, unfit_trailer, version_byte}
 
@@ -46,9 +45,4 @@ pub record Fit (len : ℕ) (t : Trailer) : Type 0 where
 
 pub fit : (len : ℕ) (t : Trailer) → unfit_trailer len t ≡ None → Fit len t
 fit len t e0 =
-    let e1 = unless_none _ _ _ e0 in
-    let e2 = unless_none _ _ _ e1.1 in
-    let e3 = unless_none _ _ _ e2.1 in
-    let e4 = unless_none _ _ _ e3.1 in
-    let e5 = unless_none _ _ _ e4.1 in
-    record { fits = e1.0; acknowledgement = e2.0; tag = e3.0; version = eqb-true _ _ e4.0; back = eqb-true _ _ e5.0 }
+    record { fits = grind arith; acknowledgement = grind arith; tag = grind arith; version = grind (arith, nat_tests); back = grind (arith, nat_tests) }

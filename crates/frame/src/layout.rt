@@ -1,11 +1,11 @@
 //! The trailer: its fields as they lie, their widths and ranges. Every number of the layout stands
 //! here once.
-ghost use Rattle.std.specs.Prelude.{◌≡◌, ◌^◌, ◌<◌, length};
-ghost use Rattle.octets.specs.Numbers.{bytes_of};
-ghost use Rattle.octets.specs.Puts.{Fills};
-ghost use Rattle.frame.specs.Layout.{acknowledgement_fits, number_fits, number_width, trailer_bytes, trailer_length, TypedTrailer, unfit_trailer};
+ghost use Rattle.std.specs.Prelude.{◌≡◌, ◌≢◌, length, MatchOption};
+ghost use Rattle.octets.specs.Puts.{Puts};
+ghost use Rattle.frame.specs.Layout.{acknowledgement_fits, number_fits, trailer_bytes, trailer_length, TypedTrailer, unfit_trailer};
 
-use octets::{be_u16, be_u32, put, u16_bytes, u32_bytes};
+use message::ranges::first_unfit;
+use octets::{Octets, exactly};
 
 /// How many bytes the message number takes, and the acknowledgement likewise.
 pub const NUMBER_WIDTH: usize = 4;
@@ -31,7 +31,9 @@ const VERSION_AT: usize = TAG_AT + 1;
 const BACK_AT: usize = TAG_AT + 2;
 
 /// The fields of a trailer, fit or not.
-#[derive(Clone, Copy)]
+// Tag and version are numbers, since a trailer with any bytes there is read, and then judged in the
+// order of its fields.
+#[derive(Clone, Copy, PartialEq, Eq, Debug)]
 pub struct Trailer {
     pub number: u64,
     pub acknowledgement: u64,
@@ -40,39 +42,55 @@ pub struct Trailer {
     pub back: usize,
 }
 
-/// The fields that the last bytes of a frame hold.
-pub(crate) fn read_trailer(bytes: &[u8]) -> Trailer
-    requires { length bytes.now ≡ trailer_length }
-    ensures { (bytes.now ≡ trailer_bytes result) × TypedTrailer result }
-{
-    let [a, b, c, d, e, f, g, h, tag, version, i, j] = bytes else {
-        unreachable()
-    };
-    Trailer {
-        number: u64::from(be_u32(*a, *b, *c, *d)),
-        acknowledgement: u64::from(be_u32(*e, *f, *g, *h)),
-        tag: *tag,
-        version: *version,
-        back: usize::from(be_u16(*i, *j)),
+/// The fields of a trailer as they lie.
+type Fields = (u32, (u32, (u8, (u8, u16))));
+
+impl Trailer {
+    /// The fields that the last bytes of a frame hold.
+    pub(crate) fn read(bytes: &[u8]) -> Option<Trailer>
+        ensures { MatchOption result (length bytes.now ≢ trailer_length) (λ t. (bytes.now ≡ trailer_bytes t) × TypedTrailer t) }
+    {
+        let (number, (acknowledgement, (tag, (version, back)))) = exactly::<Fields>(bytes)?;
+        Some(Trailer {
+            number: u64::from(number),
+            acknowledgement: u64::from(acknowledgement),
+            tag,
+            version,
+            back: usize::from(back),
+        })
     }
-}
 
-fn number_bytes(n: u64) -> [u8; NUMBER_WIDTH]
-    requires { n < 256 ^ number_width }
-    ensures { result ≡ bytes_of number_width n }
-{
-    u32_bytes(n as u32)
-}
+    /// Puts the trailer into the front of the buffer, and returns its length. Where it has no
+    /// room, nothing is put.
+    pub(crate) fn put(&self, buffer: &mut [u8]) -> Option<usize>
+        requires { TypedTrailer self.now }
+        ensures { Puts (trailer_bytes self.now) result buffer.old buffer.new }
+    {
+        let fields: Fields = (
+            self.number as u32,
+            (
+                self.acknowledgement as u32,
+                (self.tag, (self.version, self.back as u16)),
+            ),
+        );
+        fields.put(buffer)
+    }
 
-/// Puts the trailer from the place `at` on, and returns the place after it.
-pub(crate) fn put_trailer(buffer: &mut [u8], at: usize, t: &Trailer) -> usize
-    requires { TypedTrailer t.now }
-    ensures { Fills at (trailer_bytes t.now) result buffer.old buffer.new }
-{
-    let at = put(buffer, at, &number_bytes(t.number));
-    let at = put(buffer, at, &number_bytes(t.acknowledgement));
-    let at = put(buffer, at, &[t.tag, t.version]);
-    put(buffer, at, &u16_bytes(t.back as u16))
+    /// The position in the trailer of its first unfit field, in a frame of `len` bytes.
+    pub(crate) fn unfit(&self, len: usize) -> Option<usize>
+        ensures { result ≡ unfit_trailer len self.now }
+    {
+        first_unfit(&[
+            (0, number_fits(self.tag, self.number)),
+            (
+                ACKNOWLEDGEMENT_AT,
+                acknowledgement_fits(self.acknowledgement),
+            ),
+            (TAG_AT, matches!(self.tag, DATA | ALONE)),
+            (VERSION_AT, self.version == VERSION),
+            (BACK_AT, self.back == len),
+        ])
+    }
 }
 
 fn number_fits(tag: u8, number: u64) -> bool
@@ -81,7 +99,7 @@ fn number_fits(tag: u8, number: u64) -> bool
     if tag == ALONE {
         number == 0
     } else {
-        1 <= number && number <= LAST_NUMBER
+        (1..=LAST_NUMBER).contains(&number)
     }
 }
 
@@ -89,24 +107,5 @@ fn number_fits(tag: u8, number: u64) -> bool
 pub(crate) fn acknowledgement_fits(acknowledgement: u64) -> bool
     ensures { result ≡ acknowledgement_fits acknowledgement }
 {
-    1 <= acknowledgement && acknowledgement <= LAST_NUMBER + 1
-}
-
-/// The position in the trailer of its first unfit field, in a frame of `len` bytes.
-pub(crate) fn unfit_trailer(len: usize, t: &Trailer) -> Option<usize>
-    ensures { result ≡ unfit_trailer len t.now }
-{
-    if !number_fits(t.tag, t.number) {
-        Some(0)
-    } else if !acknowledgement_fits(t.acknowledgement) {
-        Some(ACKNOWLEDGEMENT_AT)
-    } else if t.tag != DATA && t.tag != ALONE {
-        Some(TAG_AT)
-    } else if t.version != VERSION {
-        Some(VERSION_AT)
-    } else if t.back != len {
-        Some(BACK_AT)
-    } else {
-        None
-    }
+    (1..=LAST_NUMBER + 1).contains(&acknowledgement)
 }

@@ -14,7 +14,7 @@ pub use sample::agree_to_seven;
 pub use write::{write_acknowledgement, write_data};
 
 /// What a frame says; its body is a part of the lent frame.
-#[derive(Clone, Copy)]
+#[derive(Clone, Copy, PartialEq, Eq, Debug)]
 pub enum Frame<'a> {
     Data {
         number: u64,
@@ -27,7 +27,8 @@ pub enum Frame<'a> {
 }
 
 /// What a frame says, with its message read.
-#[derive(Clone, Copy)]
+// Beside `Frame`, which borrows its body and has not read it: the answers of two calls, with laws of their own.
+#[derive(Clone, Copy, PartialEq, Eq, Debug)]
 pub enum Packet {
     Data {
         number: u64,

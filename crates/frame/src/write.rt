@@ -7,12 +7,30 @@ ghost use Rattle.frame.specs.Packets.{Writes};
 
 use crate::layout::{
     ALONE, DATA, LONGEST_FRAME, NUMBER_WIDTH, TRAILER_LENGTH, Trailer, VERSION,
-    acknowledgement_fits, put_trailer, unfit_trailer,
+    acknowledgement_fits,
 };
 use body::{body_len, put_body};
 use message::Message;
 use refusal::Refusal;
 
+/// Writes the frame of a message into the buffer's front, and returns its length. Refused by 2 for
+/// the number or the acknowledgement, by 3 for the message, by 8 for the buffer.
+pub fn write_data(
+    buffer: &mut [u8],
+    number: u64,
+    acknowledgement: u64,
+    message: &Message,
+) -> Result<usize, Refusal>
+    ensures writes { Writes (Data number acknowledgement message.now) buffer.old buffer.new result }
+    ensures once { WritesOnce }
+    ensures back { WrittenReadsBack }
+    ensures differ { FramesDiffer }
+{
+    put_data(buffer, number, acknowledgement, message)
+}
+
+// The steps stand apart from the public call: beside them the proof of its law that frames differ was
+// not found at each return.
 fn put_data(
     buffer: &mut [u8],
     number: u64,
@@ -29,7 +47,7 @@ fn put_data(
         version: VERSION,
         back: len + TRAILER_LENGTH,
     };
-    if let Some(position) = unfit_trailer(len + TRAILER_LENGTH, &t) {
+    if let Some(position) = t.unfit(len + TRAILER_LENGTH) {
         return Err(Refusal::Trailer {
             position: len + position,
         });
@@ -43,24 +61,20 @@ fn put_data(
     if buffer.len() < LONGEST_FRAME {
         return Err(Refusal::SmallBuffer);
     }
-    let end = put_body(buffer, message);
-    Ok(put_trailer(buffer, end, &t))
+    let end = put_body(buffer, message).ok_or(Refusal::SmallBuffer)?;
+    let len = t.put(&mut buffer[end..]).ok_or(Refusal::SmallBuffer)?;
+    Ok(end + len)
 }
 
-/// Writes the frame of a message into the buffer's front, and returns its length. Refused by 2 for
-/// the number or the acknowledgement, by 3 for the message, by 8 for the buffer.
-pub fn write_data(
-    buffer: &mut [u8],
-    number: u64,
-    acknowledgement: u64,
-    message: &Message,
-) -> Result<usize, Refusal>
-    ensures writes { Writes (Data number acknowledgement message.now) buffer.old buffer.new result }
+/// Writes an acknowledgement alone into the buffer's front, and returns its length. Refused by 2
+/// for the acknowledgement, by 8 for the buffer.
+pub fn write_acknowledgement(buffer: &mut [u8], acknowledgement: u64) -> Result<usize, Refusal>
+    ensures writes { Writes (Acknowledgement acknowledgement) buffer.old buffer.new result }
     ensures once { WritesOnce }
     ensures back { WrittenReadsBack }
     ensures differ { FramesDiffer }
 {
-    put_data(buffer, number, acknowledgement, message)
+    put_acknowledgement(buffer, acknowledgement)
 }
 
 fn put_acknowledgement(buffer: &mut [u8], acknowledgement: u64) -> Result<usize, Refusal>
@@ -81,16 +95,5 @@ fn put_acknowledgement(buffer: &mut [u8], acknowledgement: u64) -> Result<usize,
         version: VERSION,
         back: TRAILER_LENGTH,
     };
-    Ok(put_trailer(buffer, 0, &t))
-}
-
-/// Writes an acknowledgement alone into the buffer's front, and returns its length. Refused by 2
-/// for the acknowledgement, by 8 for the buffer.
-pub fn write_acknowledgement(buffer: &mut [u8], acknowledgement: u64) -> Result<usize, Refusal>
-    ensures writes { Writes (Acknowledgement acknowledgement) buffer.old buffer.new result }
-    ensures once { WritesOnce }
-    ensures back { WrittenReadsBack }
-    ensures differ { FramesDiffer }
-{
-    put_acknowledgement(buffer, acknowledgement)
+    t.put(buffer).ok_or(Refusal::SmallBuffer)
 }

@@ -1,14 +1,17 @@
 -- Turns in which no fault act happens: a frame moves one place nearer in every pair of turns.
-use Rattle.std.proofs.Common.{◌≡◌, ℕ, zero, suc, ◌+◌, ◌<◌, ◌≤◌, T, List, [], ◌∷◌, ◌++◌, length, refl, arith}
-use native.Mathlib.Decide.{dec_lt}
-use mathlib.Core.Option.{Option, none, some}
-use Rattle.law.specs.Link.{App, Frame, message, alone, ack_of, Chan, End, next, offer, oldest, still, acted, Faulted, faulted, Posted, full, joined, Collected, nothing, first, Heard, silent, declined, acknowledged, accepted, misfit, dropped, Turn, turn}
-use Rattle.law.specs.Laws.{All, Upto}
-use Rattle.law.proofs.Channels.{Given}
+use Rattle.std.proofs.Common.{◌≡◌, ℕ, zero, suc, ◌+◌, ◌<◌, ◌≤◌, T, Some, None, Option, IfSome, List, [], ◌∷◌, ◌++◌, length, ◌⊎◌, inl, inr, arith}
+use Rattle.std.proofs.lemmas.Bool.{cases_lt}
+use Rattle.std.specs.List.{All}
+use Rattle.std.proofs.lemmas.List.Elements.{All-head}
+use Rattle.law.specs.Link.{App, Frame, message, alone, ack_of, Chan, End, next, offer, oldest, done, again, faulted, Posted, full, joined, Collected, nothing, first, Heard, declined, acknowledged, accepted, misfit, dropped, Turn, turn}
+use Rattle.law.specs.Laws.{Upto}
+use Rattle.law.proofs.Channels.{spent_posted, spent_collected}
+use Rattle.law.proofs.Half.{ack_oldest}
+use Rattle.law.proofs.Turns.{moved_heard}
 
 pub data Take {M : Type 0} : List (Frame M) → Option (Frame M) → List (Frame M) → Type 0 where
-  take_none : Take [] none []
-  take_one : {f : Frame M} {ws : List (Frame M)} → Take (f ∷ ws) (some f) ws
+  take_none : Take [] None []
+  take_one : {f : Frame M} {ws : List (Frame M)} → Take (f ∷ ws) (Some f) ws
 
 pub data Put {M : Type 0} (p : ℕ) (f : Frame M) : List (Frame M) → List (Frame M) → Type 0 where
   put_full : {ws : List (Frame M)} → length ws ≡ p → Put p f ws ws
@@ -19,84 +22,22 @@ pub data Calm {M C St : Type 0} (app : App M C St) (p : ℕ) : End M St → List
   calm : {e e' : End M St} {is is' os os' : List (Frame M)} {x : Option (Frame M)} → Take is x is' → Heard app e x e' → Put p (offer e') os os' → Calm app p e is os e' is' os'
 
 module _ {M : Type 0} where
-  -- faults left never rise, places stay
-  faults_faulted : {c d : Chan M} → Faulted c d → d.faults ≤ c.faults
-  faults_faulted (faulted r l) = omega arith
-
-  places_faulted : {c d : Chan M} → Faulted c d → d.places ≡ c.places
-  places_faulted (faulted r l) = refl
-
-  faults_collected : {c d : Chan M} {x : Option (Frame M)} → Collected c x d → d.faults ≤ c.faults
-  faults_collected (nothing t) = faults_faulted t
-  faults_collected (first t) = faults_faulted t
-
-  faults_posted : {f : Frame M} {c d : Chan M} → Posted f c d → d.faults ≤ c.faults
-  faults_posted (full e) = omega arith
-  faults_posted (joined r t) = faults_faulted t
-
-module _ {M C St : Type 0} {app : App M C St} where
-  pub faults_in : {e e' : End M St} {i i' o o' : Chan M} → Turn app e i o e' i' o' → i'.faults ≤ i.faults
-  faults_in (turn c r p) = faults_collected c
-
-  pub faults_out : {e e' : End M St} {i i' o o' : Chan M} → Turn app e i o e' i' o' → o'.faults ≤ o.faults
-  faults_out (turn c r p) = faults_posted p
-
-module _ {M : Type 0} where
-  places_collected : {c d : Chan M} {x : Option (Frame M)} → Collected c x d → d.places ≡ c.places
-  places_collected (nothing t) = places_faulted t
-  places_collected (first t) = places_faulted t
-
-  places_posted : {f : Frame M} {c d : Chan M} → Posted f c d → d.places ≡ c.places
-  places_posted (full e) = refl
-  places_posted (joined r t) = places_faulted t
-
-module _ {M C St : Type 0} {app : App M C St} where
-  pub places_in : {e e' : End M St} {i i' o o' : Chan M} → Turn app e i o e' i' o' → i'.places ≡ i.places
-  places_in (turn c r p) = places_collected c
-
-  pub places_out : {e e' : End M St} {i i' o o' : Chan M} → Turn app e i o e' i' o' → o'.places ≡ o.places
-  places_out (turn c r p) = places_posted p
-
-module _ {M : Type 0} where
-  -- where the faults left do not fall, nothing acted
+  -- where the faults left do not fall, nothing again
   calm_collected : {c d : Chan M} {x : Option (Frame M)} → Collected c x d → c.faults ≤ d.faults → Take c.waiting x d.waiting
-  calm_collected (nothing (faulted still l)) h = take_none
-  calm_collected (nothing (faulted (acted a r) l)) h = absurd (omega arith)
-  calm_collected (first (faulted still l)) h = take_one
-  calm_collected (first (faulted (acted a r) l)) h = absurd (omega arith)
+  calm_collected (nothing (faulted done l)) h = take_none
+  calm_collected (nothing (faulted (again a r) l)) h = absurd (omega arith)
+  calm_collected (first (faulted done l)) h = take_one
+  calm_collected (first (faulted (again a r) l)) h = absurd (omega arith)
 
   calm_posted : {f : Frame M} {c d : Chan M} → Posted f c d → c.faults ≤ d.faults → Put c.places f c.waiting d.waiting
   calm_posted (full e) h = put_full e
-  calm_posted (joined r (faulted still l)) h = put_last r
-  calm_posted (joined r (faulted (acted a q) l)) h = absurd (omega arith)
+  calm_posted (joined r (faulted done l)) h = put_last r
+  calm_posted (joined r (faulted (again a q) l)) h = absurd (omega arith)
 
 module _ {M C St : Type 0} {app : App M C St} where
-  pub calm_turn : {e e' : End M St} {i i' o o' : Chan M} → Turn app e i o e' i' o' → i.faults ≤ i'.faults → o.faults ≤ o'.faults →
+  pub calm_turn : {e e' : End M St} {i i' o o' : Chan M} → Turn app e i o e' i' o' → i.faults + o.faults ≤ i'.faults + o'.faults →
       Calm app o.places e i.waiting o.waiting e' i'.waiting o'.waiting
-  calm_turn (turn c r p) hi ho = calm (calm_collected c hi) r (calm_posted p ho)
-
-  -- what a turn keeps of an end
-  pub base_heard : {e e' : End M St} {x : Option (Frame M)} → Heard app e x e' → e.base ≤ e'.base
-  base_heard silent = omega arith
-  base_heard (declined l) = omega arith
-  base_heard (acknowledged l) = omega arith
-  base_heard (accepted l q y) = omega arith
-  base_heard (misfit l q z) = omega arith
-  base_heard (dropped l q) = omega arith
-
-  issued_heard : {e e' : End M St} {x : Option (Frame M)} → Heard app e x e' → e'.issued ≡ e.issued
-  issued_heard silent = refl
-  issued_heard (declined l) = refl
-  issued_heard (acknowledged l) = refl
-  issued_heard (accepted l q y) = refl
-  issued_heard (misfit l q z) = refl
-  issued_heard (dropped l q) = refl
-
-  pub base_turn : {e e' : End M St} {i i' o o' : Chan M} → Turn app e i o e' i' o' → e.base ≤ e'.base
-  base_turn (turn c r p) = base_heard r
-
-  pub issued_turn : {e e' : End M St} {i i' o o' : Chan M} → Turn app e i o e' i' o' → e'.issued ≡ e.issued
-  issued_turn (turn c r p) = issued_heard r
+  calm_turn (turn c r p) h = calm (calm_collected c (omega (arith, (spent_posted p).faults))) r (calm_posted p (omega (arith, (spent_collected c).faults)))
 
 -- the frame at the place i has the property P
 abbrev pub Sits : {A : Type 0} → (A → Type 0) → List A → ℕ → Type 0
@@ -158,17 +99,13 @@ module _ {M : Type 0} where
   numbered_oldest b x [] e l = absurd (omega arith)
   numbered_oldest b x (m ∷ ms) e l = e
 
-  above_oldest : {n : ℕ} (b x : ℕ) (ps : List M) → n < x → Above n (oldest b x ps)
-  above_oldest b x [] l = l
-  above_oldest b x (m ∷ ms) l = l
-
-  take_given : {ws vs : List (Frame M)} {x : Option (Frame M)} (P : Frame M → Type 0) → Take ws x vs → All P ws → Given P x
+  take_given : {ws vs : List (Frame M)} {x : Option (Frame M)} (P : Frame M → Type 0) → Take ws x vs → All P ws → IfSome x P
   take_given P take_none h = tt
-  take_given P take_one h = h.0
+  take_given P (take_one {f = f} {ws = ws}) h = All-head P f ws h
 
 module _ {M C St : Type 0} {app : App M C St} where
   -- an acknowledgement of n that is not declined clears it
-  heard_above : {a a' : End M St} {n : ℕ} {f : Frame M} → Heard app a (some f) a' → ack_of f ≤ next a → Fine app a f → n < ack_of f → n < a'.base
+  heard_above : {a a' : End M St} {n : ℕ} {f : Frame M} → Heard app a (Some f) a' → ack_of f ≤ next a → Fine app a f → n < ack_of f → n < a'.base
   heard_above (declined l) h y k = absurd (omega arith)
   heard_above (acknowledged l) h y k = omega arith
   heard_above (accepted l e t) h y k = omega arith
@@ -176,7 +113,7 @@ module _ {M C St : Type 0} {app : App M C St} where
   heard_above (dropped l e) h y k = omega arith
 
   -- the message n, not declined, is expected no longer
-  heard_numbered : {c c' : End M St} {n : ℕ} {f : Frame M} → Heard app c (some f) c' → ack_of f ≤ next c → Fine app c f → n ≤ c.expected → Numbered n f → n < c'.expected
+  heard_numbered : {c c' : End M St} {n : ℕ} {f : Frame M} → Heard app c (Some f) c' → ack_of f ≤ next c → Fine app c f → n ≤ c.expected → Numbered n f → n < c'.expected
   heard_numbered (declined l) h y k e = absurd (omega arith)
   heard_numbered (acknowledged l) h y k e = absurd e
   heard_numbered (accepted l q t) h y k e = omega arith
@@ -185,30 +122,30 @@ module _ {M C St : Type 0} {app : App M C St} where
 
   -- the answered case of the sender's turn
   sender_answered : {a a' : End M St} {n C j : ℕ} {fw bw bw' : List (Frame M)} {x : Option (Frame M)} (i : ℕ) → Take bw x bw' → Heard app a x a' →
-      Given (Upto (next a)) x → Given (Fine app a) x → i < suc j → Sits (Above n) bw i → Mid n C j a'.base fw bw'
+      IfSome x (Upto (next a)) → IfSome x (Fine app a) → i < suc j → Sits (Above n) bw i → Mid n C j a'.base fw bw'
   sender_answered i take_none r g y l s = absurd s
   sender_answered zero take_one r g y l s = mid_cleared (heard_above r g y s)
   sender_answered (suc i) take_one r g y l s = mid_answered i (omega arith) s
 
   -- the flying case of the receiver's turn
   receiver_flying : {c c' : End M St} {n C j q b : ℕ} {fw fw' bw bw' : List (Frame M)} {x : Option (Frame M)} (i : ℕ) → Take fw x fw' → Heard app c x c' → Put q (offer c') bw bw' →
-      Given (Upto (next c)) x → Given (Fine app c) x → n ≤ c.expected → length bw < q → q ≤ C → C + i ≤ j → Sits (Numbered n) fw i → Near n C j b fw' bw'
+      IfSome x (Upto (next c)) → IfSome x (Fine app c) → n ≤ c.expected → length bw < q → q ≤ C → C + i ≤ j → Sits (Numbered n) fw i → Near n C j b fw' bw'
   receiver_flying i take_none r p g y e lq lC l s = absurd s
   receiver_flying {c' = c'} {n = n} {bw = bw} zero take_one r p g y e lq lC l s =
-      answered (length bw) (omega arith) (put_room (Above n) p lq (above_oldest c'.base c'.expected c'.pending (heard_numbered r g y e s)))
+      answered (length bw) (omega arith) (put_room (Above n) p lq (omega (arith, ack_oldest c'.base c'.expected c'.pending, heard_numbered r g y e s)))
   receiver_flying (suc i) take_one r p g y e lq lC l s = flying i (omega arith) s
 
   pub sender_step : {a a' : End M St} {n C j p : ℕ} {fw fw' bw bw' : List (Frame M)} → Calm app p a bw fw a' bw' fw' → All (Upto (next a)) bw → All (Fine app a) bw →
       n ≤ a.base → n < next a' → length fw < p → p ≤ C → Near n C (suc j) a.base fw bw → Mid n C j a'.base fw' bw'
-  sender_step (calm t r u) h hf ln lx lp lC (cleared l) = mid_cleared (omega (arith, base_heard r))
+  sender_step (calm t r u) h hf ln lx lp lC (cleared l) = mid_cleared (omega (arith, (moved_heard r).base))
   sender_step {a = a} (calm t r u) h hf ln lx lp lC (answered i l s) = sender_answered i t r (take_given (Upto (next a)) t h) (take_given (Fine app a) t hf) l s
   sender_step {n = n} (calm t r u) h hf ln lx lp lC (flying i l s) = mid_flying i (omega arith) (put_sits (Numbered n) i u s)
-  sender_step {a = a} {a' = a'} {n = n} {C = C} {j = j} {fw = fw} {fw' = fw'} {bw' = bw'} (calm t r u) h hf ln lx lp lC (begun l) = post (dec_lt n a'.base)
+  sender_step {a = a} {a' = a'} {n = n} {C = C} {j = j} {fw = fw} {fw' = fw'} {bw' = bw'} (calm t r u) h hf ln lx lp lC (begun l) = post (cases_lt n a'.base)
     where
-      post : Dec (n < a'.base) → Mid n C j a'.base fw' bw'
-      post (yes y) = mid_cleared y
-      post (no z) = mid_flying (length fw) (omega arith)
-          (put_room (Numbered n) u lp (numbered_oldest a'.base a'.expected a'.pending (omega (arith, base_heard r)) (omega (arith, base_heard r))))
+      post : (n < a'.base) ⊎ (a'.base ≤ n) → Mid n C j a'.base fw' bw'
+      post (inl y) = mid_cleared y
+      post (inr z) = mid_flying (length fw) (omega arith)
+          (put_room (Numbered n) u lp (numbered_oldest a'.base a'.expected a'.pending (omega (arith, (moved_heard r).base)) (omega (arith, (moved_heard r).base))))
 
   pub receiver_step : {c c' : End M St} {n C j q b : ℕ} {fw fw' bw bw' : List (Frame M)} → Calm app q c fw bw c' fw' bw' → All (Upto (next c)) fw → All (Fine app c) fw →
       n ≤ c.expected → length bw < q → q ≤ C → Mid n C j b fw bw → Near n C j b fw' bw'

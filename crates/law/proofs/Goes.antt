@@ -1,45 +1,44 @@
 -- A round can always be made: the law over rounds speaks of something.
-use Rattle.std.proofs.Common.{◌≡◌, ℕ, ◌<◌, ◌≤◌, Bool, true, false, T, List, [], ◌∷◌, ◌++◌, length, arith}
-use native.Mathlib.Decide.{dec_lt, ℕ_discrete}
-use mathlib.Core.Option.{Option, none, some}
-use Rattle.law.specs.Link.{App, Frame, message, alone, ack_of, Chan, End, next, offer, still, faulted, Posted, full, joined, Collected, nothing, first, Heard, silent, declined, acknowledged, accepted, misfit, dropped, Turn, turn, round}
+use Rattle.std.proofs.Common.{◌≡◌, ℕ, ◌<◌, ◌≤◌, Bool, true, false, T, Some, None, Option, List, [], ◌∷◌, ◌++◌, length, ◌⊎◌, inl, inr, arith}
+use Rattle.std.proofs.lemmas.Bool.{cases_lt, cases_eq}
+use Rattle.law.specs.Link.{App, Frame, message, alone, ack_of, Chan, End, next, offer, done, faulted, Posted, full, joined, Collected, nothing, first, Heard, silent, declined, acknowledged, accepted, misfit, dropped, Turn, turn, round}
 use Rattle.law.specs.Laws.{ARoundCanBeMade}
 use Rattle.law.proofs.Channels.{Fit}
 use Rattle.law.proofs.Runs.{both_turn, inv}
 
 module _ {M : Type 0} where
   collects : (ws : List (Frame M)) (p g : ℕ) → (x : Option (Frame M)) × (d : Chan M) × Collected (record { waiting = ws; places = p; faults = g }) x d
-  collects [] p g = (none, record { waiting = []; places = p; faults = g }, nothing (faulted still (omega arith)))
-  collects (f ∷ ws) p g = (some f, record { waiting = ws; places = p; faults = g }, first (faulted still (omega arith)))
+  collects [] p g = (None, record { waiting = []; places = p; faults = g }, nothing (faulted done (omega arith)))
+  collects (f ∷ ws) p g = (Some f, record { waiting = ws; places = p; faults = g }, first (faulted done (omega arith)))
 
   posts : (f : Frame M) (c : Chan M) → Fit c → (d : Chan M) × Posted f c d
-  posts f c h = go (dec_lt (length c.waiting) c.places)
+  posts f c h = go (cases_lt (length c.waiting) c.places)
     where
-      go : Dec (length c.waiting < c.places) → (d : Chan M) × Posted f c d
-      go (yes y) = (record { waiting = c.waiting ++ (f ∷ []); places = c.places; faults = c.faults }, joined y (faulted still (omega arith)))
-      go (no z) = (c, full (omega (arith, h.fits)))
+      go : (length c.waiting < c.places) ⊎ (c.places ≤ length c.waiting) → (d : Chan M) × Posted f c d
+      go (inl y) = (record { waiting = c.waiting ++ (f ∷ []); places = c.places; faults = c.faults }, joined y (faulted done (omega arith)))
+      go (inr z) = (c, full (omega (arith, h.fits)))
 
-dec_t : (b : Bool) → Dec (T b)
-dec_t true = yes tt
-dec_t false = no (λ t. t)
+cases_t : (b : Bool) → T b ⊎ (T b → ⊥)
+cases_t true = inl tt
+cases_t false = inr (λ t. t)
 
 module _ {M C St : Type 0} (app : App M C St) where
-  hears_message : (e : End M St) (n k : ℕ) (m : M) → k ≤ next e → (d : End M St) × Heard app e (some (message n k m)) d
-  hears_message e n k m l = go (ℕ_discrete n e.expected) (dec_t (app.fits e.state m))
+  hears_message : (e : End M St) (n k : ℕ) (m : M) → k ≤ next e → (d : End M St) × Heard app e (Some (message n k m)) d
+  hears_message e n k m l = go (cases_eq n e.expected) (cases_t (app.fits e.state m))
     where
-      go : Dec (n ≡ e.expected) → Dec (T (app.fits e.state m)) → (d : End M St) × Heard app e (some (message n k m)) d
-      go (yes q) (yes y) = (_, accepted l q y)
-      go (yes q) (no z) = (_, misfit l q z)
-      go (no z) d = (_, dropped l z)
+      go : (n ≡ e.expected) ⊎ (n ≡ e.expected → ⊥) → T (app.fits e.state m) ⊎ (T (app.fits e.state m) → ⊥) → (d : End M St) × Heard app e (Some (message n k m)) d
+      go (inl q) (inl y) = (_, accepted l q y)
+      go (inl q) (inr z) = (_, misfit l q z)
+      go (inr z) d = (_, dropped l z)
 
-  hears_frame : (e : End M St) (f : Frame M) → Dec (next e < ack_of f) → (d : End M St) × Heard app e (some f) d
-  hears_frame e f (yes y) = (e, declined y)
-  hears_frame e (message n k m) (no z) = hears_message e n k m (omega arith)
-  hears_frame e (alone k) (no z) = (_, acknowledged (omega arith))
+  hears_frame : (e : End M St) (f : Frame M) → (next e < ack_of f) ⊎ (ack_of f ≤ next e) → (d : End M St) × Heard app e (Some f) d
+  hears_frame e f (inl y) = (e, declined y)
+  hears_frame e (message n k m) (inr z) = hears_message e n k m z
+  hears_frame e (alone k) (inr z) = (_, acknowledged z)
 
   hears : (e : End M St) (x : Option (Frame M)) → (d : End M St) × Heard app e x d
-  hears e none = (e, silent)
-  hears e (some f) = hears_frame e f (dec_lt (next e) (ack_of f))
+  hears e None = (e, silent)
+  hears e (Some f) = hears_frame e f (cases_lt (next e) (ack_of f))
 
   turns : (e : End M St) (i o : Chan M) → Fit o → (d : End M St) × (j : Chan M) × (u : Chan M) × Turn app e i o d j u
   turns e i o h =

@@ -1,20 +1,21 @@
 -- One direction of the link, as an invariant: from the sender's messages to what the receiver booked.
-use Rattle.std.proofs.Common.{◌≡◌, ℕ, suc, ◌+◌, ◌-◌, ◌≤◌, List, [], ◌∷◌, ◌++◌, length, drop, sym, refl, ap, ◌∙◌, subst, arith, length-drop}
-use mathlib.Core.Option.{Option}
-use Rattle.std.proofs.lemmas.List.{drop-drop, drop-append-le}
-use Rattle.law.specs.Link.{App, Frame, message, alone, Chan, End, oldest, Heard, silent, declined, acknowledged, accepted, misfit, dropped, Turn, turn}
-use Rattle.law.specs.Laws.{All, At, Carries, Upto}
-use Rattle.law.proofs.Lists.{all_map, at_more, at_drop, Starts, starts_next, starts_more, starts_length, length_join}
-use Rattle.law.proofs.Channels.{all_posted, all_collected, Given}
+use Rattle.std.proofs.Common.{◌≡◌, ℕ, suc, ◌+◌, ◌-◌, ◌≤◌, Some, Option, IfSome, List, [], ◌∷◌, ◌++◌, length, drop, slice_get, sym, refl, ap, ◌∙◌, arith, rules, length-drop}
+use Rattle.std.specs.List.{All}
+use Rattle.std.proofs.lemmas.List.{drop-drop, drop-append-le, length_push}
+use Rattle.std.proofs.lemmas.List.Elements.{All-weaker}
+use Rattle.std.proofs.lemmas.List.Prefix.{front_fits}
+use Rattle.law.specs.Link.{App, Frame, message, alone, ack_of, Chan, End, oldest, Heard, silent, declined, acknowledged, accepted, misfit, dropped, Turn, turn}
+use Rattle.law.specs.Laws.{Carries, Prefix, Upto}
+use Rattle.law.proofs.Lists.{at_more, at_drop, prefix_next, prefix_more}
+use Rattle.law.proofs.Channels.{all_posted, all_collected}
 
 pub record Half {M : Type 0} (base : ℕ) (pending issued : List M) (expected : ℕ) (booked : List M) (there back : List (Frame M)) : Type 0 where
-  pub old : ℕ
-  pub base_is : base ≡ suc old
-  pub old_in : old ≤ length issued
-  pub pending_is : pending ≡ drop old issued
+  pub some_base : 1 ≤ base
+  pub base_in : base ≤ suc (length issued)
+  pub pending_is : pending ≡ drop (base - 1) issued
   pub expected_is : expected ≡ suc (length booked)
   pub behind : base ≤ expected
-  pub starts : Starts booked issued
+  pub starts : Prefix booked issued
   pub carried : All (Carries issued) there
   pub upto : All (Upto expected) back
 
@@ -24,72 +25,44 @@ Way a b fw bw = Half a.base a.pending a.issued b.expected b.booked fw.waiting bw
 module _ {M : Type 0} where
   -- the number after the last issued one
   pub next_is : {b x : ℕ} {ps is bs : List M} {ws vs : List (Frame M)} → Half b ps is x bs ws vs → b + length ps ≡ suc (length is)
-  next_is {is = is} h = omega (arith, ap length h.pending_is, length-drop h.old is, h.base_is, h.old_in)
+  next_is {b} {is = is} h = omega (arith, ap length h.pending_is, length-drop (b - 1) is, h.some_base, h.base_in)
 
   pub below_next : {b x : ℕ} {ps is bs : List M} {ws vs : List (Frame M)} → Half b ps is x bs ws vs → x ≤ b + length ps
-  below_next {is = is} {bs = bs} h = omega (arith, next_is h, starts_length bs is h.starts, h.expected_is)
+  below_next {is = is} {bs = bs} h = omega (arith, next_is h, front_fits is bs h.starts.0 (sym h.starts.1), h.expected_is)
 
-  pub half_frames : {b x : ℕ} {ps is bs : List M} {ws vs ws' vs' : List (Frame M)} → Half b ps is x bs ws vs →
+  half_frames : {b x : ℕ} {ps is bs : List M} {ws vs ws' vs' : List (Frame M)} → Half b ps is x bs ws vs →
       All (Carries is) ws' → All (Upto x) vs' → Half b ps is x bs ws' vs'
-  half_frames h c u = record { old = h.old; base_is = h.base_is; old_in = h.old_in; pending_is = h.pending_is; expected_is = h.expected_is; behind = h.behind; starts = h.starts; carried = c; upto = u }
+  half_frames h c u = search rules
 
-  pub half_clear : {b x : ℕ} {ps is bs : List M} {ws vs : List (Frame M)} (k : ℕ) → k ≤ x → Half b ps is x bs ws vs →
+  half_clear : {b x : ℕ} {ps is bs : List M} {ws vs : List (Frame M)} (k : ℕ) → k ≤ x → Half b ps is x bs ws vs →
       Half (b + (k - b)) (drop (k - b) ps) is x bs ws vs
-  half_clear {b} {x} {ps} {is} {bs} k l h = record {
-    old = h.old + (k - b);
-    base_is = omega (arith, h.base_is);
-    old_in = omega (arith, below_next h, next_is h, h.base_is, h.old_in);
-    pending_is = ap (drop (k - b)) h.pending_is ∙ drop-drop (k - b) h.old is;
-    expected_is = h.expected_is;
-    behind = omega (arith, h.behind);
-    starts = h.starts;
-    carried = h.carried;
-    upto = h.upto;
-  }
+  half_clear {b} {x} {ps} {is} {bs} k l h = grind (arith, below_next h, next_is h, drop-drop (k - b) (b - 1) is)
 
-  pub half_book : {b x : ℕ} {ps is bs : List M} {ws vs : List (Frame M)} (m : M) (i : ℕ) → x ≡ suc i → At is i m → Half b ps is x bs ws vs →
+  half_book : {b x : ℕ} {ps is bs : List M} {ws vs : List (Frame M)} (m : M) (i : ℕ) → x ≡ suc i → slice_get is i ≡ Some m → Half b ps is x bs ws vs →
       Half b ps is (suc x) (bs ++ (m ∷ [])) ws vs
-  half_book {b} {x} {ps} {is} {bs} {ws} {vs} m i e a h = record {
-    old = h.old;
-    base_is = h.base_is;
-    old_in = h.old_in;
-    pending_is = h.pending_is;
-    expected_is = omega (arith, h.expected_is, length_join bs m);
-    behind = omega (arith, h.behind);
-    starts = starts_next bs is m h.starts (subst (λ j. At is j m) (omega (arith, h.expected_is)) a);
-    carried = h.carried;
-    upto = all_map (Upto x) (Upto (suc x)) (λ f l. omega arith) vs h.upto;
-  }
+  half_book {b} {x} {ps} {is} {bs} {ws} {vs} m i e a h =
+      grind (arith, length_push bs m, prefix_next bs is m h.starts, All-weaker (Upto x) (Upto (suc x)) (λ f l. omega arith) vs h.upto)
 
   pub half_issue : {b x : ℕ} {ps is bs : List M} {ws vs : List (Frame M)} (m : M) → Half b ps is x bs ws vs →
       Half b (ps ++ (m ∷ [])) (is ++ (m ∷ [])) x bs ws vs
-  half_issue {b} {x} {ps} {is} {bs} {ws} {vs} m h = record {
-    old = h.old;
-    base_is = h.base_is;
-    old_in = omega (arith, h.old_in, length_join is m);
-    pending_is = ap (λ l. l ++ (m ∷ [])) h.pending_is ∙ sym (drop-append-le h.old is (m ∷ []) h.old_in);
-    expected_is = h.expected_is;
-    behind = h.behind;
-    starts = starts_more bs is (m ∷ []) h.starts;
-    carried = all_map (Carries is) (Carries (is ++ (m ∷ []))) carry ws h.carried;
-    upto = h.upto;
-  }
+  half_issue {b} {x} {ps} {is} {bs} {ws} {vs} m h =
+      grind (arith, length_push is m, drop-append-le (b - 1) is (m ∷ []), prefix_more bs is (m ∷ []) h.starts, All-weaker (Carries is) (Carries (is ++ (m ∷ []))) carry ws h.carried)
     where
       carry : (f : Frame M) → Carries is f → Carries (is ++ (m ∷ [])) f
       carry (message n k y) c = (c.0, c.1, at_more is (m ∷ []) c.0 y c.2)
       carry (alone k) c = tt
 
-  carries_oldest : (b x old : ℕ) (is ps : List M) → b ≡ suc old → ps ≡ drop old is → Carries is (oldest b x ps)
-  carries_oldest b x old is [] e p = tt
-  carries_oldest b x old is (m ∷ ms) e p = (old, e, at_drop old is m (subst (λ l. At l 0 m) p refl))
+  carries_oldest : (b x : ℕ) (is ps : List M) → 1 ≤ b → ps ≡ drop (b - 1) is → Carries is (oldest b x ps)
+  carries_oldest b x is [] l e = tt
+  carries_oldest b x is (m ∷ ms) l e = (b - 1, omega arith, at_drop (b - 1) is m (ap (λ ps. slice_get ps 0) (sym e)))
 
-  upto_oldest : (b x : ℕ) (ps : List M) → Upto x (oldest b x ps)
-  upto_oldest b x [] = omega arith
-  upto_oldest b x (m ∷ ms) = omega arith
+  pub ack_oldest : (b x : ℕ) (ps : List M) → ack_of (oldest b x ps) ≡ x
+  ack_oldest b x [] = refl
+  ack_oldest b x (m ∷ ms) = refl
 
 module _ {M C St : Type 0} {app : App M C St} where
   -- what the sender hears
-  sender_heard : {a a' : End M St} {x : ℕ} {bs : List M} {ws vs : List (Frame M)} {f : Option (Frame M)} → Heard app a f a' → Given (Upto x) f →
+  sender_heard : {a a' : End M St} {x : ℕ} {bs : List M} {ws vs : List (Frame M)} {f : Option (Frame M)} → Heard app a f a' → IfSome f (Upto x) →
       Half a.base a.pending a.issued x bs ws vs → Half a'.base a'.pending a'.issued x bs ws vs
   sender_heard silent g h = h
   sender_heard (declined l) g h = h
@@ -99,7 +72,7 @@ module _ {M C St : Type 0} {app : App M C St} where
   sender_heard (dropped {k = k} l e) g h = half_clear k g h
 
   -- what the receiver hears
-  receiver_heard : {c c' : End M St} {b : ℕ} {ps is : List M} {ws vs : List (Frame M)} {f : Option (Frame M)} → Heard app c f c' → Given (Carries is) f →
+  receiver_heard : {c c' : End M St} {b : ℕ} {ps is : List M} {ws vs : List (Frame M)} {f : Option (Frame M)} → Heard app c f c' → IfSome f (Carries is) →
       Half b ps is c.expected c.booked ws vs → Half b ps is c'.expected c'.booked ws vs
   receiver_heard silent g h = h
   receiver_heard (declined l) g h = h
@@ -113,11 +86,11 @@ module _ {M C St : Type 0} {app : App M C St} where
   sender_turn {x = x} (turn {e' = a'} c r p) h =
       let g = all_collected (Upto x) c h.upto in
       let k = sender_heard r g.0 h in
-      half_frames k (all_posted (Carries a'.issued) p (carries_oldest a'.base a'.expected k.old a'.issued a'.pending k.base_is k.pending_is) k.carried) g.1
+      half_frames k (all_posted (Carries a'.issued) p (carries_oldest a'.base a'.expected a'.issued a'.pending k.some_base k.pending_is) k.carried) g.1
 
   pub receiver_turn : {c c' : End M St} {fw bw fw' bw' : Chan M} {b : ℕ} {ps is : List M} → Turn app c fw bw c' fw' bw' →
       Half b ps is c.expected c.booked fw.waiting bw.waiting → Half b ps is c'.expected c'.booked fw'.waiting bw'.waiting
   receiver_turn {is = is} (turn {e' = c'} c r p) h =
       let g = all_collected (Carries is) c h.carried in
       let k = receiver_heard r g.0 h in
-      half_frames k g.1 (all_posted (Upto c'.expected) p (upto_oldest c'.base c'.expected c'.pending) k.upto)
+      half_frames k g.1 (all_posted (Upto c'.expected) p (omega (arith, ack_oldest c'.base c'.expected c'.pending)) k.upto)

@@ -1,9 +1,10 @@
 -- What rounds keep and lower; and rounds in which what is to be booked next fits before every turn.
-use Rattle.std.proofs.Common.{◌≡◌, ℕ, suc, ◌≤◌, length, refl, ap, ◌∙◌, arith}
+use Rattle.std.proofs.Common.{ℕ, suc}
 use Rattle.law.specs.Link.{App, Chan, End, Turn, World, Reached, stepped, secured_turns, pledgor_turns, round, Rounds, done, again}
 use Rattle.law.specs.Laws.{Fitting}
-use Rattle.law.proofs.Runs.{Both, swap, both_turn, fewer_turn, Inv}
-use Rattle.law.proofs.Calm.{faults_in, faults_out, places_in, places_out, base_turn, issued_turn}
+use Rattle.law.proofs.Channels.{Spent, spent_same, spent_both}
+use Rattle.law.proofs.Turns.{Moved, moves, moved_same, moved_both, spent_in, spent_out}
+use Rattle.law.proofs.Runs.{Both, swap, both_turn, Inv}
 
 -- the world seen from the other end
 abbrev pub flip : {M St : Type 0} → World M St → World M St
@@ -12,84 +13,33 @@ flip w = record { secured = w.pledgor; pledgor = w.secured; forth = w.back; back
 -- what rounds keep and lower
 pub record Kept {M St : Type 0} (w v : World M St) : Type 0 where
   pub kept_inv : Inv v
-  pub forth_faults : v.forth.faults ≤ w.forth.faults
-  pub back_faults : v.back.faults ≤ w.back.faults
-  pub forth_places : v.forth.places ≡ w.forth.places
-  pub back_places : v.back.places ≡ w.back.places
-  pub secured_fewer : length v.secured.pending ≤ length w.secured.pending
-  pub pledgor_fewer : length v.pledgor.pending ≤ length w.pledgor.pending
-  pub secured_base : w.secured.base ≤ v.secured.base
-  pub pledgor_base : w.pledgor.base ≤ v.pledgor.base
-  pub secured_issued : length v.secured.issued ≡ length w.secured.issued
-  pub pledgor_issued : length v.pledgor.issued ≡ length w.pledgor.issued
+  pub forth : Spent w.forth v.forth
+  pub back : Spent w.back v.back
+  pub secured : Moved w.secured v.secured
+  pub pledgor : Moved w.pledgor v.pledgor
 
 module _ {M C St : Type 0} {app : App M C St} where
-  kept_turn : {a a' b : End M St} {fw fw' bw bw' : Chan M} → Turn app a bw fw a' bw' fw' → Both a b fw bw →
+  pub kept_turn : {a a' b : End M St} {fw fw' bw bw' : Chan M} → Turn app a bw fw a' bw' fw' → Both a b fw bw →
       Kept (record { secured = a; pledgor = b; forth = fw; back = bw }) (record { secured = a'; pledgor = b; forth = fw'; back = bw' })
-  kept_turn t h = record {
-    kept_inv = both_turn t h;
-    forth_faults = faults_out t;
-    back_faults = faults_in t;
-    forth_places = places_out t;
-    back_places = places_in t;
-    secured_fewer = fewer_turn t;
-    pledgor_fewer = omega arith;
-    secured_base = base_turn t;
-    pledgor_base = omega arith;
-    secured_issued = ap length (issued_turn t);
-    pledgor_issued = refl;
-  }
+  kept_turn {b = b} t h = record { kept_inv = both_turn t h; forth = spent_out t; back = spent_in t; secured = moves t; pledgor = moved_same b }
 
 module _ {M St : Type 0} where
-  kept_flip : {w v : World M St} → Kept w v → Kept (flip w) (flip v)
-  kept_flip k = record {
-    kept_inv = swap k.kept_inv;
-    forth_faults = k.back_faults;
-    back_faults = k.forth_faults;
-    forth_places = k.back_places;
-    back_places = k.forth_places;
-    secured_fewer = k.pledgor_fewer;
-    pledgor_fewer = k.secured_fewer;
-    secured_base = k.pledgor_base;
-    pledgor_base = k.secured_base;
-    secured_issued = k.pledgor_issued;
-    pledgor_issued = k.secured_issued;
-  }
-
   kept_both : {w v u : World M St} → Kept w v → Kept v u → Kept w u
   kept_both k l = record {
     kept_inv = l.kept_inv;
-    forth_faults = omega (arith, k.forth_faults, l.forth_faults);
-    back_faults = omega (arith, k.back_faults, l.back_faults);
-    forth_places = l.forth_places ∙ k.forth_places;
-    back_places = l.back_places ∙ k.back_places;
-    secured_fewer = omega (arith, k.secured_fewer, l.secured_fewer);
-    pledgor_fewer = omega (arith, k.pledgor_fewer, l.pledgor_fewer);
-    secured_base = omega (arith, k.secured_base, l.secured_base);
-    pledgor_base = omega (arith, k.pledgor_base, l.pledgor_base);
-    secured_issued = l.secured_issued ∙ k.secured_issued;
-    pledgor_issued = l.pledgor_issued ∙ k.pledgor_issued;
+    forth = spent_both k.forth l.forth;
+    back = spent_both k.back l.back;
+    secured = moved_both k.secured l.secured;
+    pledgor = moved_both k.pledgor l.pledgor;
   }
 
-  kept_same : {w : World M St} → Inv w → Kept w w
-  kept_same h = record {
-    kept_inv = h;
-    forth_faults = omega arith;
-    back_faults = omega arith;
-    forth_places = refl;
-    back_places = refl;
-    secured_fewer = omega arith;
-    pledgor_fewer = omega arith;
-    secured_base = omega arith;
-    pledgor_base = omega arith;
-    secured_issued = refl;
-    pledgor_issued = refl;
-  }
+  kept_same : (w : World M St) → Inv w → Kept w w
+  kept_same w h = record { kept_inv = h; forth = spent_same w.forth; back = spent_same w.back; secured = moved_same w.secured; pledgor = moved_same w.pledgor }
 
 module _ {M C St : Type 0} {app : App M C St} where
   kept_second : {a b b' : End M St} {fw fw' bw bw' : Chan M} → Turn app b fw bw b' fw' bw' → Both a b fw bw →
       Kept (record { secured = a; pledgor = b; forth = fw; back = bw }) (record { secured = a; pledgor = b'; forth = fw'; back = bw' })
-  kept_second t h = kept_flip (kept_turn t (swap h))
+  kept_second {a = a} t h = record { kept_inv = swap (both_turn t (swap h)); forth = spent_in t; back = spent_out t; secured = moved_same a; pledgor = moves t }
 
   pub kept_pair : {a a' b b' : End M St} {fw fw' fw'' bw bw' bw'' : Chan M} → Turn app a bw fw a' bw' fw' → Turn app b fw' bw' b' fw'' bw'' → Both a b fw bw →
       Kept (record { secured = a; pledgor = b; forth = fw; back = bw }) (record { secured = a'; pledgor = b'; forth = fw''; back = bw'' })
@@ -104,7 +54,7 @@ pub data Steady {M C St : Type 0} (app : App M C St) : ℕ → World M St → Wo
 
 module _ {M C St : Type 0} {app : App M C St} where
   pub kept_rounds : {n : ℕ} {w v : World M St} → Steady app n w v → Inv w → Kept w v
-  kept_rounds rest h = kept_same h
+  kept_rounds {w = w} rest h = kept_same w h
   kept_rounds (more t u f g rs) h = let k = kept_pair t u h in kept_both k (kept_rounds rs k.kept_inv)
 
   pub fitting_flip : {w : World M St} → Fitting app w → Fitting app (flip w)

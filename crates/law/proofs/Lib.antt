@@ -1,6 +1,7 @@
 pub mod Lists
 pub mod Channels
 pub mod Half
+pub mod Turns
 pub mod Runs
 pub mod Frames
 pub mod Calm

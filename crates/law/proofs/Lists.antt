@@ -1,71 +1,42 @@
 -- Lists: a property of all elements, the element at a place, a list that another starts with.
-use Rattle.std.proofs.Common.{◌≡◌, ℕ, zero, suc, ◌≤◌, List, [], ◌∷◌, ◌++◌, length, drop, sym, refl, ap, le_of_suc-le-suc, not-suc-le-zero, arith}
+use Rattle.std.proofs.Common.{◌≡◌, ℕ, suc, ◌≤◌, Some, List, [], ◌∷◌, ◌++◌, length, drop, slice_get, sym, refl, ap, ◌∙◌, append_assoc, append-nil, arith}
+use Rattle.std.specs.List.{All}
+use Rattle.std.proofs.lemmas.Grind.{common_steps}
+use Rattle.std.proofs.lemmas.Option.{gets, get_or_from_slice_get, slice_get_within}
+use Rattle.std.proofs.lemmas.List.{drop_more, nil_from_length}
+use Rattle.std.proofs.lemmas.List.Elements.{All-head, All-tail, All-cons}
+use Rattle.std.proofs.lemmas.List.Prefix.{front_rest}
 use Rattle.law.specs.Link.{Takes, here, there}
-use Rattle.law.specs.Laws.{All, At, Prefix}
+use Rattle.law.specs.Laws.{Prefix}
 
 pub all_takes : {A : Type 0} (P : A → Type 0) {x : A} {xs ys : List A} → Takes x xs ys → All P xs → P x × All P ys
-all_takes P here h = (h.0, h.1)
-all_takes P (there t) h = let r = all_takes P t h.1 in (r.0, (h.0, r.1))
+all_takes P {x} {ys = ys} here h = (All-head P x ys h, All-tail P x ys h)
+all_takes P (there {y = y} {xs = xs} {ys = ys} t) h = let r = all_takes P t (All-tail P y xs h) in (r.0, All-cons P y ys (All-head P y xs h) r.1)
 
 pub all_gives : {A : Type 0} (P : A → Type 0) {x : A} {xs ys : List A} → Takes x xs ys → P x → All P ys → All P xs
-all_gives P here p h = (p, h)
-all_gives P (there t) p h = (h.0, all_gives P t p h.1)
+all_gives P {x} {ys = ys} here p h = All-cons P x ys p h
+all_gives P (there {y = y} {xs = xs} {ys = ys} t) p h = All-cons P y xs (All-head P y ys h) (all_gives P t p (All-tail P y ys h))
 
 pub length_takes : {A : Type 0} {x : A} {xs ys : List A} → Takes x xs ys → length xs ≡ suc (length ys)
 length_takes here = refl
 length_takes (there t) = ap suc (length_takes t)
 
-pub all_join : {A : Type 0} (P : A → Type 0) (xs : List A) (x : A) → All P xs → P x → All P (xs ++ (x ∷ []))
-all_join P [] x h p = (p, tt)
-all_join P (y ∷ xs) x h p = (h.0, all_join P xs x h.1 p)
+pub at_more : {A : Type 0} (xs ys : List A) (i : ℕ) (m : A) → slice_get xs i ≡ Some m → slice_get (xs ++ ys) i ≡ Some m
+at_more xs ys i m a = grind (arith, common_steps, gets, slice_get_within xs i m)
 
-pub all_map : {A : Type 0} (P Q : A → Type 0) → ((x : A) → P x → Q x) → (xs : List A) → All P xs → All Q xs
-all_map P Q f [] h = tt
-all_map P Q f (x ∷ xs) h = (f x h.0, all_map P Q f xs h.1)
+pub at_drop : {A : Type 0} (k : ℕ) (xs : List A) (m : A) → slice_get (drop k xs) 0 ≡ Some m → slice_get xs k ≡ Some m
+at_drop k xs m a = grind (arith, common_steps, gets, slice_get_within (drop k xs) 0 m)
 
-pub length_join : {A : Type 0} (xs : List A) (x : A) → length (xs ++ (x ∷ [])) ≡ suc (length xs)
-length_join [] x = refl
-length_join (y ∷ xs) x = ap suc (length_join xs x)
+pub at_cons : {A : Type 0} (xs : List A) (k : ℕ) (m : A) → slice_get xs k ≡ Some m → drop k xs ≡ m ∷ drop (suc k) xs
+at_cons xs k m a = grind (arith, drop_more xs k m, get_or_from_slice_get xs k m m, slice_get_within xs k m)
 
-pub at_more : {A : Type 0} (xs ys : List A) (i : ℕ) (m : A) → At xs i m → At (xs ++ ys) i m
-at_more [] ys i m a = absurd a
-at_more (x ∷ xs) ys zero m a = a
-at_more (x ∷ xs) ys (suc i) m a = at_more xs ys i m a
+pub prefix_next : {A : Type 0} (xs ys : List A) (m : A) → Prefix xs ys → slice_get ys (length xs) ≡ Some m → Prefix (xs ++ (m ∷ [])) ys
+prefix_next xs ys m p a =
+    let d = drop (suc (length xs)) ys in
+    (d, append_assoc xs (m ∷ []) d ∙ ap (λ l. xs ++ l) (sym (at_cons ys (length xs) m a) ∙ front_rest ys xs p.0 (sym p.1)) ∙ p.1)
 
-pub at_drop : {A : Type 0} (k : ℕ) (xs : List A) (m : A) → At (drop k xs) 0 m → At xs k m
-at_drop zero xs m a = a
-at_drop (suc k) [] m a = a
-at_drop (suc k) (x ∷ xs) m a = at_drop k xs m a
+pub prefix_more : {A : Type 0} (xs ys zs : List A) → Prefix xs ys → Prefix xs (ys ++ zs)
+prefix_more xs ys zs p = (p.0 ++ zs, sym (append_assoc xs p.0 zs) ∙ ap (λ l. l ++ zs) p.1)
 
--- ys starts with xs
-abbrev pub Starts : {A : Type 0} → List A → List A → Type 0
-Starts [] ys = Unit {0}
-Starts (x ∷ xs) [] = ⊥
-Starts (x ∷ xs) (y ∷ ys) = (x ≡ y) × Starts xs ys
-
-pub starts_next : {A : Type 0} (xs ys : List A) (m : A) → Starts xs ys → At ys (length xs) m → Starts (xs ++ (m ∷ [])) ys
-starts_next [] [] m s a = absurd a
-starts_next [] (y ∷ ys) m s a = (sym a, tt)
-starts_next (x ∷ xs) [] m s a = absurd s
-starts_next (x ∷ xs) (y ∷ ys) m s a = (s.0, starts_next xs ys m s.1 a)
-
-pub starts_more : {A : Type 0} (xs ys zs : List A) → Starts xs ys → Starts xs (ys ++ zs)
-starts_more [] ys zs s = tt
-starts_more (x ∷ xs) [] zs s = absurd s
-starts_more (x ∷ xs) (y ∷ ys) zs s = (s.0, starts_more xs ys zs s.1)
-
-pub starts_length : {A : Type 0} (xs ys : List A) → Starts xs ys → length xs ≤ length ys
-starts_length [] ys s = omega arith
-starts_length (x ∷ xs) [] s = absurd s
-starts_length (x ∷ xs) (y ∷ ys) s = omega (arith, starts_length xs ys s.1)
-
-pub starts_prefix : {A : Type 0} (xs ys : List A) → Starts xs ys → Prefix xs ys
-starts_prefix [] ys s = (ys, refl)
-starts_prefix (x ∷ xs) [] s = absurd s
-starts_prefix (x ∷ xs) (y ∷ ys) s = let r = starts_prefix xs ys s.1 in (r.0, cc (s.0, r.1))
-
-pub starts_all : {A : Type 0} (xs ys : List A) → Starts xs ys → length ys ≤ length xs → xs ≡ ys
-starts_all [] [] s h = refl
-starts_all [] (y ∷ ys) s h = absurd (not-suc-le-zero h)
-starts_all (x ∷ xs) [] s h = absurd s
-starts_all (x ∷ xs) (y ∷ ys) s h = cc (s.0, starts_all xs ys s.1 (le_of_suc-le-suc h))
+pub prefix_all : {A : Type 0} (xs ys : List A) → Prefix xs ys → length ys ≤ length xs → xs ≡ ys
+prefix_all xs ys p h = grind (arith, common_steps, p.1, nil_from_length p.0, append-nil xs)

@@ -1,17 +1,12 @@
 -- A relation that issuing and booking keep over two queues holds over every run of the link.
-use Rattle.std.proofs.Common.{◌≡◌, ℕ, zero, suc, T, List, [], ◌∷◌, length, drop, sym, ap, subst, arith}
-use mathlib.Core.Option.{Option}
-use Rattle.std.proofs.lemmas.List.{drop-append-le}
+use Rattle.std.proofs.Common.{◌≡◌, suc, T, Some, Option, IfSome, List, [], ◌∷◌, ◌++◌, length, drop, slice_get, sym, subst, arith}
+use Rattle.std.proofs.lemmas.List.{drop-append-le, length_push}
+use Rattle.std.proofs.lemmas.List.Prefix.{front_fits}
 use Rattle.law.specs.Link.{App, Frame, Chan, End, Issued, issue, Heard, silent, declined, acknowledged, accepted, misfit, dropped, Turn, turn, World, Step, refuses, secured_issues, pledgor_issues, secured_turns, pledgor_turns, Reached, opened, stepped}
-use Rattle.law.specs.Laws.{At, Between, Carries, Fitting, Joint, QueuesKeepARelation}
-use Rattle.law.proofs.Lists.{length_join, starts_length}
-use Rattle.law.proofs.Channels.{Given, all_collected}
+use Rattle.law.specs.Laws.{Between, Carries, Fitting, Joint, QueuesKeepARelation}
+use Rattle.law.proofs.Lists.{at_cons}
+use Rattle.law.proofs.Channels.{all_collected}
 use Rattle.law.proofs.Runs.{Both, swap, Inv, inv}
-
-at_cons : {A : Type 0} (xs : List A) (k : ℕ) (m : A) → At xs k m → drop k xs ≡ m ∷ drop (suc k) xs
-at_cons [] k m a = absurd a
-at_cons (x ∷ xs) zero m a = ap (λ z. z ∷ xs) a
-at_cons (x ∷ xs) (suc k) m a = at_cons xs k m a
 
 module _ {M C St : Type 0} {app : App M C St} where
   joint_flip : {J : St → St → List M → List M → Type 0} → Joint app J → Joint app (λ a b xs ys. J b a ys xs)
@@ -25,7 +20,7 @@ module _ {M C St : Type 0} {app : App M C St} where
   }
 
 module _ {M C St : Type 0} {app : App M C St} (J : St → St → List M → List M → Type 0) (j : Joint app J) where
-  between_heard : (b : End M St) {a a' : End M St} {x : Option (Frame M)} → Heard app a x a' → Given (Carries b.issued) x → a.expected ≡ suc (length a.booked) →
+  between_heard : (b : End M St) {a a' : End M St} {x : Option (Frame M)} → Heard app a x a' → IfSome x (Carries b.issued) → a.expected ≡ suc (length a.booked) →
       Between J a b → Between J a' b
   between_heard b silent g e h = h
   between_heard b (declined l) g e h = h
@@ -34,9 +29,10 @@ module _ {M C St : Type 0} {app : App M C St} (J : St → St → List M → List
   between_heard b (dropped l q) g e h = h
   between_heard b {a} (accepted {m = m} l q y) g e h =
       let k = length a.booked in
-      let at : At b.issued k m = subst (λ i. At b.issued i m) (omega (arith, g.1)) g.2 in
+      let at : slice_get b.issued k ≡ Some m = subst (λ i. slice_get b.issued i ≡ Some m) (omega (arith, g.1)) g.2 in
+      let n : suc k ≡ length (a.booked ++ (m ∷ [])) = omega (arith, length_push a.booked m) in
       let h₁ = subst (λ ys. J a.state b.state (drop (length b.booked) a.issued) ys) (at_cons b.issued k m at) h in
-      subst (λ i. J (app.books a.state m) b.state (drop (length b.booked) a.issued) (drop i b.issued)) (sym (length_join a.booked m)) (j.back_book m h₁)
+      subst (λ i. J (app.books a.state m) b.state (drop (length b.booked) a.issued) (drop i b.issued)) n (j.back_book m h₁)
 
   between_turn : {a a' b : End M St} {fw fw' bw bw' : Chan M} → Turn app a bw fw a' bw' fw' → Both a b fw bw → Between J a b → Between J a' b
   between_turn {b = b} (turn c r p) h q = between_heard b r (all_collected (Carries b.issued) c h.return.carried).0 h.return.expected_is q
@@ -44,7 +40,7 @@ module _ {M C St : Type 0} {app : App M C St} (J : St → St → List M → List
   between_issue : {a a' b : End M St} {fw bw : Chan M} → Issued app a a' → Both a b fw bw → Between J a b → Between J a' b
   between_issue {b = b} (issue {e = a} {s = s} c m l u t) h q =
       subst (λ xs. J s b.state xs (drop (length a.booked) b.issued))
-      (sym (drop-append-le (length b.booked) a.issued (m ∷ []) (starts_length b.booked a.issued h.go.starts)))
+      (sym (drop-append-le (length b.booked) a.issued (m ∷ []) (front_fits a.issued b.booked h.go.starts.0 (sym h.go.starts.1))))
       (j.there_issue c m q t)
 
 module _ {M C St : Type 0} {app : App M C St} (J : St → St → List M → List M → Type 0) (j : Joint app J) where

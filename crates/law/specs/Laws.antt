@@ -1,7 +1,7 @@
 -- What holds over every run of the link, for any messages and any book above it.
-use Rattle.std.specs.Prelude.{◌≡◌, ℕ, zero, suc, ◌+◌, ◌*◌, ◌≤◌, max, Bool, T, List, [], ◌∷◌, ◌++◌, map, length, drop}
-use Rattle.std.proofs.Math.Option.{some}
-use Rattle.law.specs.Link.{Acts, App, Chan, Collected, End, Frame, Reached, Round, Rounds, World, ack_of, alone, message, next}
+use Rattle.std.specs.Prelude.{◌≡◌, ℕ, suc, ◌+◌, ◌*◌, ◌≤◌, max, Bool, T, Some, List, [], ◌∷◌, ◌++◌, map, length, drop, slice_get}
+use Rattle.std.specs.List.{All}
+use Rattle.law.specs.Link.{Acts, App, Chan, Collected, End, Frame, Reached, Round, Rounds, World, ack_of, alone, message, next, window}
 
 -- the one list begins the other
 abbrev pub Prefix : {M : Type 0} → List M → List M → Type 0
@@ -30,33 +30,23 @@ faults_of w = w.forth.faults + w.back.faults
 abbrev pub places_of : {M St : Type 0} → World M St → ℕ
 places_of w = max w.forth.places w.back.places
 
--- the element at the place i is m
-abbrev pub At : {A : Type 0} → List A → ℕ → A → Type 0
-At [] i m = ⊥
-At (x ∷ xs) zero m = x ≡ m
-At (x ∷ xs) (suc i) m = At xs i m
-
 -- the message that an end is to book next, if it is issued, fits
 pub record Fitting {M C St : Type 0} (app : App M C St) (w : World M St) : Type 0 where
-  pub there_fits : (m : M) → At w.secured.issued (length w.pledgor.booked) m → T (app.fits w.pledgor.state m)
-  pub back_fits : (m : M) → At w.pledgor.issued (length w.secured.booked) m → T (app.fits w.secured.state m)
+  pub there_fits : (m : M) → slice_get w.secured.issued (length w.pledgor.booked) ≡ Some m → T (app.fits w.pledgor.state m)
+  pub back_fits : (m : M) → slice_get w.pledgor.issued (length w.secured.booked) ≡ Some m → T (app.fits w.secured.state m)
 
 -- if what is to be booked next always fits, so many rounds or more without another call leave nothing unacknowledged, whatever the faults do in them
 abbrev pub RoundsLeaveNothingUnacknowledged : (M C St : Type 0) → Type 0
 RoundsLeaveNothingUnacknowledged M C St = (app : App M C St) (s p : St) → ((w : World M St) → Reached app s p w → Fitting app w) →
-    (w v : World M St) (n : ℕ) → Reached app s p w → (faults_of w + 8) * (2 * places_of w + 1) ≤ n → Rounds app n w v → Settled v
+    (w v : World M St) (n : ℕ) → Reached app s p w → (faults_of w + window) * (2 * places_of w + 1) ≤ n → Rounds app n w v → Settled v
 
 -- from every reached world a round can be made
 abbrev pub ARoundCanBeMade : (M C St : Type 0) → Type 0
 ARoundCanBeMade M C St = (app : App M C St) (s p : St) (w : World M St) → Reached app s p w → (v : World M St) × Round app w v
 
-abbrev pub All : {A : Type 0} → (A → Type 0) → List A → Type 0
-All P [] = Unit {0}
-All P (x ∷ xs) = P x × All P xs
-
 -- a message frame carries the message of its number
 abbrev pub Carries : {M : Type 0} → List M → Frame M → Type 0
-Carries is (message n k m) = (i : ℕ) × (n ≡ suc i) × At is i m
+Carries is (message n k m) = (i : ℕ) × (n ≡ suc i) × (slice_get is i ≡ Some m)
 Carries is (alone k) = Unit {0}
 
 -- a frame acknowledges no more than x
@@ -72,8 +62,8 @@ pub record Truthful {M St : Type 0} (sender : End M St) (c : Chan M) : Type 0 wh
 pub record Sincere {M St : Type 0} (w : World M St) : Type 0 where
   pub there_true : Truthful w.secured w.forth
   pub back_true : Truthful w.pledgor w.back
-  pub there_issued : (f : Frame M) (c : Chan M) → Collected w.forth (some f) c → ack_of f ≤ next w.pledgor
-  pub back_issued : (f : Frame M) (c : Chan M) → Collected w.back (some f) c → ack_of f ≤ next w.secured
+  pub there_issued : (f : Frame M) (c : Chan M) → Collected w.forth (Some f) c → ack_of f ≤ next w.pledgor
+  pub back_issued : (f : Frame M) (c : Chan M) → Collected w.back (Some f) c → ack_of f ≤ next w.secured
 
 abbrev pub WaitingFramesAreTrue : (M C St : Type 0) → Type 0
 WaitingFramesAreTrue M C St = (app : App M C St) (s p : St) (w : World M St) → Reached app s p w → Sincere w
@@ -81,8 +71,8 @@ WaitingFramesAreTrue M C St = (app : App M C St) (s p : St) (w : World M St) →
 -- A relation between two states and the messages under way in each direction, oldest first, that issuing and booking keep.
 -- It speaks of two queues alone: of no channel, number, frame or fault.
 pub record Joint {M C St : Type 0} (app : App M C St) (J : St → St → List M → List M → Type 0) : Type 0 where
-  pub there_issue : {s s' p : St} {xs ys : List M} (c : C) (m : M) → J s p xs ys → app.drafts s c ≡ some (m, s') → J s' p (xs ++ (m ∷ [])) ys
-  pub back_issue : {s p p' : St} {xs ys : List M} (c : C) (m : M) → J s p xs ys → app.drafts p c ≡ some (m, p') → J s p' xs (ys ++ (m ∷ []))
+  pub there_issue : {s s' p : St} {xs ys : List M} (c : C) (m : M) → J s p xs ys → app.drafts s c ≡ Some (m, s') → J s' p (xs ++ (m ∷ [])) ys
+  pub back_issue : {s p p' : St} {xs ys : List M} (c : C) (m : M) → J s p xs ys → app.drafts p c ≡ Some (m, p') → J s p' xs (ys ++ (m ∷ []))
   pub there_fit : {s p : St} {xs ys : List M} (m : M) → J s p (m ∷ xs) ys → T (app.fits p m)
   pub back_fit : {s p : St} {xs ys : List M} (m : M) → J s p xs (m ∷ ys) → T (app.fits s m)
   pub there_book : {s p : St} {xs ys : List M} (m : M) → J s p (m ∷ xs) ys → J s (app.books p m) xs ys

@@ -1,7 +1,19 @@
 -- Two ends of a numbered link over two faulty channels: what a call and a turn may do, and the worlds that a run reaches.
 -- Frames are abstract, and so are the messages and the book above the link.
-use Rattle.std.specs.Prelude.{◌≡◌, ℕ, suc, ◌+◌, ◌-◌, ◌<◌, ◌≤◌, Bool, T, ◌≢◌, List, [], ◌∷◌, ◌++◌, length, drop}
-use Rattle.std.proofs.Math.Option.{Option, none, some}
+use Rattle.std.specs.Prelude.{◌≡◌, ℕ, suc, ◌+◌, ◌-◌, ◌<◌, ◌≤◌, Bool, T, ◌≢◌, Some, None, Option, List, [], ◌∷◌, ◌++◌, length, drop}
+
+-- how many messages may be unacknowledged
+abbrev pub window : ℕ
+window = 8
+
+-- the last number that a message is given
+abbrev pub last_number : ℕ
+last_number = 1000000
+
+-- a relation so many times, one after another
+pub data Times {A : Type 0} (R : A → A → Type 0) : ℕ → A → A → Type 0 where
+  done : {x : A} → Times R 0 x x
+  again : {n : ℕ} {x y z : A} → R x y → Times R n y z → Times R (suc n) x z
 
 -- a frame: a message with its number and an acknowledgement, or an acknowledgement alone
 pub data Frame (M : Type 0) : Type 0 where
@@ -31,9 +43,8 @@ pub data Act {A : Type 0} (places : ℕ) : List A → List A → Type 0 where
   move : {x : A} {ws rest moved : List A} → Takes x ws rest → Takes x moved rest → Act places ws moved
 
 -- so many acts, one after another
-pub data Acts {A : Type 0} (places : ℕ) : ℕ → List A → List A → Type 0 where
-  still : {ws : List A} → Acts places 0 ws ws
-  acted : {n : ℕ} {ws vs us : List A} → Act places ws vs → Acts places n vs us → Acts places (suc n) ws us
+abbrev pub Acts : {A : Type 0} → ℕ → ℕ → List A → List A → Type 0
+Acts places = Times (Act places)
 
 -- some acts, with the faults left falling by at least their number
 pub data Faulted {M : Type 0} : Chan M → Chan M → Type 0 where
@@ -51,11 +62,11 @@ pub data Posted {M : Type 0} (f : Frame M) : Chan M → Chan M → Type 0 where
 -- a collect: acts come first, then the first frame leaves, if one waits
 pub data Collected {M : Type 0} : Chan M → Option (Frame M) → Chan M → Type 0 where
   nothing : {c : Chan M} {p g : ℕ} → Faulted c (record { waiting = []; places = p; faults = g }) →
-      Collected c none (record { waiting = []; places = p; faults = g })
+      Collected c None (record { waiting = []; places = p; faults = g })
   first : {c : Chan M} {f : Frame M} {ws : List (Frame M)} {p g : ℕ} → Faulted c (record { waiting = f ∷ ws; places = p; faults = g }) →
-      Collected c (some f) (record { waiting = ws; places = p; faults = g })
+      Collected c (Some f) (record { waiting = ws; places = p; faults = g })
 
--- the book above the link: which message fits a state, what booking it does to the state, and the message that a call drafts, with the state after it (none where the call is refused)
+-- the book above the link: which message fits a state, what booking it does to the state, and the message that a call drafts, with the state after it (None where the call is refused)
 pub record App (M C St : Type 0) : Type 0 where
   pub fits : St → M → Bool
   pub books : St → M → St
@@ -96,31 +107,35 @@ oldest b x (m ∷ ms) = message b x m
 abbrev pub offer : {M St : Type 0} → End M St → Frame M
 offer e = oldest e.base e.expected e.pending
 
--- a call that issues: at most eight messages are unacknowledged, and no number is above the last
+-- a call that issues: at most a window of messages are unacknowledged, and no number is above the last
 pub data Issued {M C St : Type 0} (app : App M C St) : End M St → End M St → Type 0 where
-  issue : {e : End M St} {s : St} (c : C) (m : M) → length e.pending < 8 → next e ≤ 1000000 → app.drafts e.state c ≡ some (m, s) →
+  issue : {e : End M St} {s : St} (c : C) (m : M) → length e.pending < window → next e ≤ last_number → app.drafts e.state c ≡ Some (m, s) →
       Issued app e (record { state = s; base = e.base; pending = e.pending ++ (m ∷ []); expected = e.expected; issued = e.issued ++ (m ∷ []); booked = e.booked })
 
 -- what a collected frame does to an end
 pub data Heard {M C St : Type 0} (app : App M C St) : End M St → Option (Frame M) → End M St → Type 0 where
-  silent : {e : End M St} → Heard app e none e
-  declined : {e : End M St} {f : Frame M} → next e < ack_of f → Heard app e (some f) e
-  acknowledged : {e : End M St} {k : ℕ} → k ≤ next e → Heard app e (some (alone k)) (clear k e)
-  accepted : {e : End M St} {n k : ℕ} {m : M} → k ≤ next e → n ≡ e.expected → T (app.fits e.state m) → Heard app e (some (message n k m)) (book app m (clear k e))
-  misfit : {e : End M St} {n k : ℕ} {m : M} → k ≤ next e → n ≡ e.expected → ¬ T (app.fits e.state m) → Heard app e (some (message n k m)) e
-  dropped : {e : End M St} {n k : ℕ} {m : M} → k ≤ next e → n ≢ e.expected → Heard app e (some (message n k m)) (clear k e)
+  silent : {e : End M St} → Heard app e None e
+  declined : {e : End M St} {f : Frame M} → next e < ack_of f → Heard app e (Some f) e
+  acknowledged : {e : End M St} {k : ℕ} → k ≤ next e → Heard app e (Some (alone k)) (clear k e)
+  accepted : {e : End M St} {n k : ℕ} {m : M} → k ≤ next e → n ≡ e.expected → T (app.fits e.state m) → Heard app e (Some (message n k m)) (book app m (clear k e))
+  misfit : {e : End M St} {n k : ℕ} {m : M} → k ≤ next e → n ≡ e.expected → ¬ T (app.fits e.state m) → Heard app e (Some (message n k m)) e
+  dropped : {e : End M St} {n k : ℕ} {m : M} → k ≤ next e → n ≢ e.expected → Heard app e (Some (message n k m)) (clear k e)
 
 -- a turn of an end, with its incoming and its outgoing channel
 pub data Turn {M C St : Type 0} (app : App M C St) : End M St → Chan M → Chan M → End M St → Chan M → Chan M → Type 0 where
   turn : {e e' : End M St} {i i' o o' : Chan M} {x : Option (Frame M)} →
       Collected i x i' → Heard app e x e' → Posted (offer e') o o' → Turn app e i o e' i' o'
 
--- two ends, and the channels to the pledgor end and back
-pub record World (M St : Type 0) : Type 0 where
-  pub secured : End M St
-  pub pledgor : End M St
-  pub forth : Chan M
-  pub back : Chan M
+-- two ends, and what carries frames to the pledgor end and back
+pub record Ends (E C : Type 0) : Type 0 where
+  pub secured : E
+  pub pledgor : E
+  pub forth : C
+  pub back : C
+
+-- two ends and the channels between them
+abbrev pub World : (M St : Type 0) → Type 0
+World M St = Ends (End M St) (Chan M)
 
 -- a step of a run: a refused call, a call that issues, or a turn
 pub data Step {M C St : Type 0} (app : App M C St) : World M St → World M St → Type 0 where
@@ -149,6 +164,5 @@ pub data Round {M C St : Type 0} (app : App M C St) : World M St → World M St 
       Round app (record { secured = s; pledgor = p; forth = a; back = b }) (record { secured = s'; pledgor = p'; forth = a''; back = b'' })
 
 -- so many rounds
-pub data Rounds {M C St : Type 0} (app : App M C St) : ℕ → World M St → World M St → Type 0 where
-  done : {w : World M St} → Rounds app 0 w w
-  again : {n : ℕ} {w v u : World M St} → Round app w v → Rounds app n v u → Rounds app (suc n) w u
+abbrev pub Rounds : {M C St : Type 0} → App M C St → ℕ → World M St → World M St → Type 0
+Rounds app = Times (Round app)

@@ -7,44 +7,36 @@ ghost use Rattle.law.specs.Laws.{ARoundCanBeMade, ActsOnWrittenFrames, BookingsB
 
 /// What one end booked begins what the other issued, and is all of it once nothing is
 /// unacknowledged.
-pub fn bookings_begin_what_was_issued<M, C, S>() -> u8
+#[tactic(auto, using(crate::proofs::Runs::agrees))]
+pub fn bookings_begin_what_was_issued<M, C, S>()
     ensures { BookingsBeginWhatWasIssued M C S }
-{
-    0
-}
+{}
 
 /// A stated number of rounds leaves nothing unacknowledged, whatever the faults do.
-pub fn rounds_leave_nothing_unacknowledged<M, C, S>() -> u8
+#[tactic(auto, using(crate::proofs::Settling::settles))]
+pub fn rounds_leave_nothing_unacknowledged<M, C, S>()
     ensures { RoundsLeaveNothingUnacknowledged M C S }
-{
-    0
-}
+{}
 
 /// A round can be made from every reached world.
-pub fn a_round_can_be_made<M, C, S>() -> u8
+pub fn a_round_can_be_made<M, C, S>()
     ensures { ARoundCanBeMade M C S }
-{
-    0
-}
+{}
 
 /// Every waiting frame carries what was issued under its number, and acknowledges what its sender
 /// may acknowledge.
-pub fn waiting_frames_are_true<M, C, S>() -> u8
+#[tactic(auto, using(crate::proofs::Frames::frames_true))]
+pub fn waiting_frames_are_true<M, C, S>()
     ensures { WaitingFramesAreTrue M C S }
-{
-    0
-}
+{}
 
 /// A relation that issuing and booking in order keep over two queues holds in every reached world.
-pub fn queues_keep_a_relation<M, C, S>() -> u8
+pub fn queues_keep_a_relation<M, C, S>()
     ensures { QueuesKeepARelation M C S }
-{
-    0
-}
+{}
 
 /// Fault acts on written frames are fault acts on the frames, whatever the written form.
-pub fn acts_on_written_frames<T, S>() -> u8
+#[tactic(auto, using(crate::proofs::Lift::lifts))]
+pub fn acts_on_written_frames<T, S>()
     ensures { ActsOnWrittenFrames T S }
-{
-    0
-}
+{}

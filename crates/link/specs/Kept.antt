@@ -84,10 +84,6 @@ advances k n = n == k.expected && nat_le n last_number
 abbrev pub advanced : Kept → ℕ → Kept
 advanced k n = cond (advances k n) (awaited k) k
 
-abbrev pub oldest_of : List Message → Option Message
-oldest_of [] = None
-oldest_of (m ∷ ms) = Some m
-
 -- the frame of the oldest message, numbered b, or else an acknowledgement alone; x is expected
 abbrev pub offers : ℕ → ℕ → List Message → Packet
 offers b x [] = Acknowledgement x

@@ -5,7 +5,7 @@ use message::Message;
 pub const WINDOW: usize = 8;
 
 /// The numbers of a link and its unacknowledged messages, without a promise about them.
-#[derive(Clone, Copy)]
+#[derive(Clone, Copy, Debug)]
 pub struct LinkState {
     /// The lowest number that is not acknowledged.
     pub base: u64,
@@ -14,6 +14,7 @@ pub struct LinkState {
     /// How many messages are unacknowledged.
     pub count: usize,
     /// The unacknowledged messages in the order of their numbers, then any.
+    // An array, since `ArrayVec` fills its free places with a default, and a message has none.
     pub table: [Message; WINDOW],
 }
 

@@ -2,26 +2,25 @@
 use message::Message;
 use refusal::Refusal;
 
-/// What became of the frame that a turn collected.
-#[derive(Clone, Copy)]
-pub enum Collected {
-    /// No frame waited.
-    Nothing,
-    /// The frame is refused by 1 to 5, and changes nothing.
-    Refused { fault: Refusal },
-    /// It was an acknowledgement alone.
+/// What a collected frame was.
+#[derive(Clone, Copy, PartialEq, Eq, Debug)]
+pub enum Received {
+    /// An acknowledgement alone.
     Acknowledgement,
-    /// The expected message is booked.
+    /// The expected message, which is booked.
     Booked { number: u64, message: Message },
-    /// The message was booked before; it is dropped.
+    /// A message that was booked before; it is dropped.
     Repeat { number: u64 },
-    /// A message before it is not booked yet; it is dropped.
+    /// A message with one before it that is not booked yet; it is dropped.
     Early { number: u64 },
 }
 
-/// What a turn did: what became of the collected frame, and whether the post found a place.
-#[derive(Clone, Copy)]
+/// What a turn did.
+#[derive(Clone, Copy, PartialEq, Eq, Debug)]
 pub struct Turned {
-    pub collected: Collected,
+    /// What the collected frame was, none if none waited; or why it is refused, by 1 to 5, in which
+    /// case it changes nothing.
+    pub collected: Result<Option<Received>, Refusal>,
+    /// Whether the post found a place: what a link writes is refused for nothing else.
     pub posted: bool,
 }

@@ -1,280 +1,188 @@
 //! A whole agreement over two perfect queues: what each call answers, each message, and both books.
-use crate::frames::words_of;
-use amounts::{Lot, Place, SecuredLot};
+use amounts::Lot;
 use annex::Annex;
-use day::{Day, DayState};
+use day::Day;
+use exchange::{BookingError, Exchange, IssueError};
 use message::Message;
-use pledgor::PledgorBook;
-use refusal::Refusal;
-use scenario::{Scenario, Source, Step};
-use secured::SecuredBook;
-use std::io;
+use scenario::{Lines, Source, Step};
+use std::alloc::AllocError;
+use std::{fmt, io};
 use valuer::{Panel, Sheet};
 
-/// Two books, and what is under way between them, oldest first.
-#[derive(Drop)]
-struct Agreement {
-    secured: SecuredBook,
-    pledgor: PledgorBook,
-    forth: Vec<Message>,
-    back: Vec<Message>,
-}
-
-fn refused(rt: &HostRuntime, refusal: Refusal) -> io::Result<()> {
-    let number = refusal.number();
-    let words = refusal.words();
-    println!(rt; "refused {number}: {words}")
-}
-
-fn told(rt: &HostRuntime, what: &str, message: &Message) -> io::Result<()> {
-    let words = words_of(rt.alloc(), message)?;
-    println!(rt; "{what} {words}")
-}
-
-fn state_of(state: DayState) -> &'static str {
-    match state {
-        DayState::Unset => "unset",
-        DayState::Quiet => "quiet",
-        DayState::Called => "called",
-        DayState::Agreed => "agreed",
-        DayState::Disputed => "disputed",
-        DayState::Resolved => "resolved",
-        DayState::Offered => "offered",
-        DayState::Released => "released",
-        DayState::Satisfied => "satisfied",
-    }
-}
-
-fn told_day(rt: &HostRuntime, end: &str, day: Day) -> io::Result<()> {
-    let state = state_of(day.state);
-    let number = day.number;
-    let amount = day.amount;
+fn tell_day(rt: &HostRuntime, end: &str, day: Day) -> io::Result<()> {
+    let Day {
+        state,
+        number,
+        amount,
+    } = day;
     println!(rt; "{end} day {number} {state} amount {amount}")
 }
 
-fn told_lot(rt: &HostRuntime, end: &str, number: u8, state: &str, lot: Lot) -> io::Result<()> {
-    let class = lot.class;
-    let face = lot.face;
+fn tell_lot(
+    rt: &HostRuntime,
+    end: &str,
+    number: u8,
+    state: impl fmt::Display + Drop,
+    lot: Lot,
+) -> io::Result<()> {
+    let Lot { class, face } = lot;
     println!(rt; "{end} position lot {number} class {class} face {face} {state}")
 }
 
-// The first panel of a day.
-fn quotes_of(scenario: &Scenario, day: u32) -> &[i64] {
-    for line in scenario.panels.iter() {
-        if line.day == day {
-            return scenario
-                .quotes
-                .as_slice()
-                .get(line.from..line.to)
-                .unwrap_or(&[]);
-        }
-    }
-    &[]
+// The two ends, and the scenario whose steps they make.
+#[derive(Drop)]
+struct Agreement<'a> {
+    rt: &'a HostRuntime,
+    lines: &'a Lines,
+    ends: Exchange,
 }
 
-impl Agreement {
-    fn take_secured(
-        &mut self,
-        rt: &HostRuntime,
-        drafted: Result<(Message, SecuredBook), Refusal>,
-    ) -> io::Result<()> {
-        match drafted {
-            Ok(taken) => {
-                let message = taken.0;
-                self.forth.push(message)?;
-                self.secured = taken.1;
-                told(rt, "issued", &message)
-            }
-            Err(refusal) => refused(rt, refusal),
-        }
-    }
-
-    fn take_pledgor(
-        &mut self,
-        rt: &HostRuntime,
-        drafted: Result<(Message, PledgorBook), Refusal>,
-    ) -> io::Result<()> {
-        match drafted {
-            Ok(taken) => {
-                let message = taken.0;
-                self.back.push(message)?;
-                self.pledgor = taken.1;
-                told(rt, "issued", &message)
-            }
-            Err(refusal) => refused(rt, refusal),
-        }
-    }
-
+impl<'a> Agreement<'a> {
     // Weighs the sheet's row of a day, and notifies what it comes to.
-    fn notify(&mut self, rt: &HostRuntime, scenario: &Scenario, day: u32) -> io::Result<()> {
-        let row = valuer::read_row(&Sheet::new(scenario.rows.as_slice()), day);
-        match self.secured.weigh(&row) {
-            Ok(finding) => {
-                let drafted = self.secured.notify(finding, &row);
-                self.take_secured(rt, drafted)
-            }
-            Err(refusal) => refused(rt, refusal),
-        }
+    fn notify(&mut self, day: u32) -> Result<Message, IssueError> {
+        let Exchange { secured, pledgor } = &mut self.ends;
+        let row = valuer::read_row(&Sheet::new(self.lines.rows.as_slice()), day);
+        let finding = secured.book.weigh(&row)?;
+        let drafted = secured.book.notify(finding, &row);
+        secured.issue(drafted, pledgor)
     }
 
-    fn resolve(&mut self, rt: &HostRuntime, scenario: &Scenario, source: Source) -> io::Result<()> {
-        let day = self.secured.day().number;
-        match source {
-            Source::Sheet => {
-                let drafted = self.secured.resolve(&Sheet::new(scenario.rows.as_slice()));
-                self.take_secured(rt, drafted)
+    fn resolve(&mut self, source: Source) -> Result<Message, IssueError> {
+        let Exchange { secured, pledgor } = &mut self.ends;
+        let drafted = match source {
+            Source::Sheet => secured
+                .book
+                .resolve(&Sheet::new(self.lines.rows.as_slice())),
+            Source::Panel => {
+                let day = secured.book.day().number;
+                secured
+                    .book
+                    .resolve(&Panel::open(day, self.lines.quotes_of(day))?)
             }
-            Source::Panel => match Panel::open(day, quotes_of(scenario, day)) {
-                Ok(panel) => {
-                    let drafted = self.secured.resolve(&panel);
-                    self.take_secured(rt, drafted)
-                }
-                Err(refusal) => refused(rt, refusal),
-            },
-        }
+        };
+        secured.issue(drafted, pledgor)
     }
 
     // The pledgor answers with its own row of its day.
-    fn answer(&mut self, rt: &HostRuntime, scenario: &Scenario) -> io::Result<()> {
-        let day = self.pledgor.day().number;
-        let row = valuer::read_row(&Sheet::new(scenario.own_rows.as_slice()), day);
-        let drafted = self.pledgor.answer(&row);
-        self.take_pledgor(rt, drafted)
+    fn answer(&mut self) -> Result<Message, IssueError> {
+        let Exchange { secured, pledgor } = &mut self.ends;
+        let day = pledgor.book.day().number;
+        let row = valuer::read_row(&Sheet::new(self.lines.own_rows.as_slice()), day);
+        let drafted = pledgor.book.answer(&row);
+        pledgor.issue(drafted, secured)
     }
 
-    fn book_at_secured(&mut self, rt: &HostRuntime) -> io::Result<()> {
-        if self.back.is_empty() {
-            return println!(rt; "nothing under way");
+    fn tell_issued(&self, step: Step, answer: Result<Message, IssueError>) -> io::Result<()> {
+        print!(self.rt; "{step}: ")?;
+        match answer {
+            Ok(message) => println!(self.rt; "issued {message}"),
+            Err(IssueError::Refused(refusal)) => println!(self.rt; "refused {refusal}"),
+            Err(IssueError::Memory) => Err(AllocError.into()),
         }
-        let message = self.back.remove(0);
-        let fits = self.secured.book(message);
-        told(rt, if fits { "booked" } else { "misfit" }, &message)
     }
 
-    fn book_at_pledgor(&mut self, rt: &HostRuntime) -> io::Result<()> {
-        if self.forth.is_empty() {
-            return println!(rt; "nothing under way");
+    fn tell_booked(&self, step: Step, answer: Result<Message, BookingError>) -> io::Result<()> {
+        print!(self.rt; "{step}: ")?;
+        match answer {
+            Ok(message) => println!(self.rt; "booked {message}"),
+            Err(BookingError::Misfit(message)) => println!(self.rt; "misfit {message}"),
+            Err(BookingError::NothingUnderWay) => println!(self.rt; "nothing under way"),
         }
-        let message = self.forth.remove(0);
-        let fits = self.pledgor.book(message);
-        told(rt, if fits { "booked" } else { "misfit" }, &message)
     }
 
-    fn show_secured(&self, rt: &HostRuntime) -> io::Result<()> {
-        told_day(rt, "secured", self.secured.day())?;
-        let delivered = self.secured.delivered();
-        let freed = self.secured.freed();
-        let v = self.secured.value();
-        let uncovered = self.secured.uncovered();
+    fn show_secured(&self) -> io::Result<()> {
+        let rt = self.rt;
+        let book = &self.ends.secured.book;
+        tell_day(rt, "secured", book.day())?;
+        let delivered = book.delivered();
+        let freed = book.freed();
+        let v = book.value();
+        let uncovered = book.uncovered();
         println!(rt; "secured delivered {delivered} freed {freed} v {v} uncovered {uncovered}")?;
+        // A book shows its lots by their numbers.
         for number in 0..32u8 {
-            match self.secured.lot(number) {
-                SecuredLot::Absent => {}
-                SecuredLot::Held(lot) => told_lot(rt, "secured", number, "held", lot)?,
-                SecuredLot::OwedBack(lot) => told_lot(rt, "secured", number, "owed-back", lot)?,
-                SecuredLot::DeclineOwed(lot) => told_lot(
-                    rt,
-                    "secured",
-                    number,
-                    "decline-owed",
-                    lot,
-                )?,
+            let entry = book.lot(number);
+            if let Some(lot) = entry.lot() {
+                tell_lot(rt, "secured", number, entry.state(), lot)?;
             }
         }
         Ok(())
     }
 
-    fn show_pledgor(&self, rt: &HostRuntime) -> io::Result<()> {
-        told_day(rt, "pledgor", self.pledgor.day())?;
+    fn show_pledgor(&self) -> io::Result<()> {
+        let rt = self.rt;
+        let book = &self.ends.pledgor.book;
+        tell_day(rt, "pledgor", book.day())?;
+        // A book shows its lots by their numbers.
         for number in 0..32u8 {
-            let entry = self.pledgor.lot(number);
-            match entry.place {
-                Place::Home => {}
-                Place::Posted => told_lot(rt, "pledgor", number, "posted", entry.lot)?,
-                Place::Asked => told_lot(rt, "pledgor", number, "asked", entry.lot)?,
+            if let Some(lot) = book.position(number) {
+                tell_lot(rt, "pledgor", number, book.lot(number).place, lot)?;
             }
         }
-        let forth = self.forth.len();
-        let back = self.back.len();
+        let forth = self.ends.pledgor.inbox.len();
+        let back = self.ends.secured.inbox.len();
         println!(rt; "under-way to-pledgor {forth} to-secured {back}")
     }
 
-    fn call(&mut self, rt: &HostRuntime, step: Step) -> io::Result<()> {
-        let drafted = match step {
-            Step::Deliver { lot } => self.pledgor.deliver(lot),
-            Step::Substitute { new, old } => self.pledgor.substitute(new, old),
-            Step::Ask { lot } => self.pledgor.ask(lot),
-            _ => self.pledgor.release(),
-        };
-        self.take_pledgor(rt, drafted)
-    }
-
-    fn make(&mut self, rt: &HostRuntime, scenario: &Scenario, step: Step) -> io::Result<()> {
-        match step {
-            Step::Notify { day } => self.notify(rt, scenario, day),
-            Step::Resolve { source } => self.resolve(rt, scenario, source),
+    fn make(&mut self, step: Step) -> io::Result<()> {
+        let Exchange { secured, pledgor } = &mut self.ends;
+        let answer = match step {
+            Step::Show => {
+                self.show_secured()?;
+                return self.show_pledgor();
+            }
+            Step::BookAtSecured => {
+                let answer = secured.book_next();
+                return self.tell_booked(step, answer);
+            }
+            Step::BookAtPledgor => {
+                let answer = pledgor.book_next();
+                return self.tell_booked(step, answer);
+            }
+            Step::Notify { day } => self.notify(day),
+            Step::Resolve { source } => self.resolve(source),
             Step::Confirm => {
-                let drafted = self.secured.confirm();
-                self.take_secured(rt, drafted)
+                let drafted = secured.book.confirm();
+                secured.issue(drafted, pledgor)
             }
             Step::Reply { lot } => {
-                let drafted = self.secured.reply(lot);
-                self.take_secured(rt, drafted)
+                let drafted = secured.book.reply(lot);
+                secured.issue(drafted, pledgor)
             }
-            Step::Answer => self.answer(rt, scenario),
-            Step::BookAtSecured => self.book_at_secured(rt),
-            Step::BookAtPledgor => self.book_at_pledgor(rt),
-            Step::Show => {
-                self.show_secured(rt)?;
-                self.show_pledgor(rt)
+            Step::Answer => self.answer(),
+            Step::Deliver { lot } => {
+                let drafted = pledgor.book.deliver(lot);
+                pledgor.issue(drafted, secured)
             }
-            Step::Deliver { .. } | Step::Substitute { .. } | Step::Ask { .. } | Step::Release =>
-                self.call(rt, step),
-        }
-    }
-}
-
-// A step in the words of a scenario.
-fn named(rt: &HostRuntime, step: Step) -> io::Result<()> {
-    match step {
-        Step::Notify { day } => print!(rt; "notify {day}: "),
-        Step::Resolve {
-            source: Source::Sheet,
-        } => print!(rt; "resolve sheet: "),
-        Step::Resolve {
-            source: Source::Panel,
-        } => print!(rt; "resolve panel: "),
-        Step::Confirm => print!(rt; "confirm: "),
-        Step::Reply { lot } => print!(rt; "reply {lot}: "),
-        Step::Answer => print!(rt; "answer: "),
-        Step::Deliver { lot } => print!(rt; "deliver {lot}: "),
-        Step::Substitute { new, old } => print!(rt; "substitute {new} {old}: "),
-        Step::Ask { lot } => print!(rt; "ask {lot}: "),
-        Step::Release => print!(rt; "release: "),
-        Step::BookAtSecured => print!(rt; "book secured: "),
-        Step::BookAtPledgor => print!(rt; "book pledgor: "),
-        Step::Show => Ok(()),
+            Step::Substitute { new, old } => {
+                let drafted = pledgor.book.substitute(new, old);
+                pledgor.issue(drafted, secured)
+            }
+            Step::Ask { lot } => {
+                let drafted = pledgor.book.ask(lot);
+                pledgor.issue(drafted, secured)
+            }
+            Step::Release => {
+                let drafted = pledgor.book.release();
+                pledgor.issue(drafted, secured)
+            }
+        };
+        self.tell_issued(step, answer)
     }
 }
 
 /// Makes the steps of a scenario, if it has any, on two books that are opened on its terms.
-pub(crate) fn make_steps(rt: &HostRuntime, scenario: &Scenario, annex: Annex) -> io::Result<()> {
-    if scenario.steps.is_empty() {
+pub(crate) fn make_steps(rt: &HostRuntime, lines: &Lines, annex: Annex) -> io::Result<()> {
+    if lines.steps.is_empty() {
         return Ok(());
     }
-    let pledgor = match PledgorBook::open(annex, scenario.own_lots.as_slice()) {
-        Ok(book) => book,
-        Err(refusal) => return refused(rt, refusal),
+    let ends = match Exchange::open(rt.alloc(), annex, lines.own_lots.as_slice()) {
+        Ok(ends) => ends,
+        Err(refusal) => return println!(rt; "refused {refusal}"),
     };
-    let mut agreement = Agreement {
-        secured: SecuredBook::open(annex),
-        pledgor,
-        forth: Vec::new(rt.alloc()),
-        back: Vec::new(rt.alloc()),
-    };
-    for step in scenario.steps.iter() {
-        named(rt, *step)?;
-        agreement.make(rt, scenario, *step)?;
+    let mut agreement = Agreement { rt, lines, ends };
+    for step in lines.steps.iter() {
+        agreement.make(*step)?;
     }
     Ok(())
 }

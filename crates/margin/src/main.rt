@@ -7,12 +7,13 @@ mod path;
 mod report;
 mod text;
 
-use anyhow::anyhow;
-use frames::{bytes_of, explain};
-use report::valuation;
+use anyhow::{Context, anyhow};
+use frames::explain;
+use hex::FromHexError;
+use std::alloc::AllocError;
 use std::process::ExitCode;
 use std::{env, fs, io};
-use text::{HELP, found, unreadable};
+use text::{HELP, found};
 
 // The text of the file that is named, or else of standard input.
 fn input(rt: &HostRuntime, path: Option<String>) -> anyhow::Result<String> {
@@ -25,25 +26,24 @@ fn input(rt: &HostRuntime, path: Option<String>) -> anyhow::Result<String> {
 fn value(rt: &HostRuntime, path: Option<String>) -> anyhow::Result<()> {
     let text = input(rt, path)?;
     match scenario::read(rt.alloc(), text.as_str()) {
-        Ok(scenario) => Ok(valuation(rt, &scenario)?),
+        Ok(scenario) => Ok(report::run(rt, scenario)?),
         Err(error) => {
             if let Some(line) = found(error, text.as_str()) {
                 eprintln!(rt; "margin: found '{line}'")?;
             }
-            let said = unreadable(rt.alloc(), error)?;
-            Err(anyhow!("{said}"))
+            Err(error.into())
         }
     }
 }
 
 // What the frame of these hexadecimal digits says.
 fn frame(rt: &HostRuntime, digits: Option<String>) -> anyhow::Result<()> {
-    let Some(digits) = digits else {
-        return Err(anyhow!("expected 'margin frame' and hexadecimal digits"));
-    };
-    match bytes_of(rt.alloc(), digits.as_str())? {
-        Some(bytes) => Ok(explain(rt, bytes.as_slice())?),
-        None => Err(anyhow!("expected an even number of hexadecimal digits")),
+    let digits = digits.context("expected 'margin frame' and hexadecimal digits")?;
+    match hex::decode(rt.alloc(), digits.as_str()) {
+        Ok(bytes) => Ok(explain(rt, bytes.as_slice())?),
+        Err(FromHexError::OutOfMemory) => Err(AllocError.into()),
+        // In the words of this program.
+        Err(_) => Err(anyhow!("expected an even number of hexadecimal digits")),
     }
 }
 

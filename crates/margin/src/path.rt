@@ -1,11 +1,10 @@
 //! The way of a frame: over a scripted carrier, and passed on to a slip from which it is taken.
-use crate::frames::hex_of;
-use carrier::{Carrier, Slip};
+use crate::report::Report;
+use carrier::{Carrier, LONGEST_FRAME, Slip};
 use refusal::Refusal;
-use relay::{Outcome, relay};
-use scenario::Scenario;
+use relay::{Passed, relay};
+use scenario::CarrierLines;
 use scripted::{Entry, Fault, Scripted};
-use std::alloc::{AllocError, Global};
 use std::io;
 
 /// The most frames that are taken from a carrier to which nothing is posted any more: its places, and a
@@ -19,15 +18,8 @@ pub(crate) struct Path {
     slip: Slip,
 }
 
-fn fault_of(fault: Fault) -> &'static str {
-    match fault {
-        Fault::Lose => "lose",
-        Fault::Repeat => "repeat",
-        Fault::Move => "move",
-    }
-}
-
 // What an entry does to a list of this many frames, and how many there are then.
+// Worked out here: a carrier tells no outcome of an entry.
 fn effect(entry: &Entry, waiting: usize, places: usize) -> (&'static str, usize) {
     if entry.position >= waiting {
         return ("nothing, no such frame", waiting);
@@ -43,110 +35,97 @@ fn effect(entry: &Entry, waiting: usize, places: usize) -> (&'static str, usize)
     }
 }
 
-// What each fault of the call that was just made did; `before` frames waited when the first acted.
-fn faults(rt: &HostRuntime, day: &str, line: &Scripted, before: usize) -> io::Result<()> {
-    let mut waiting = before;
-    for entry in line.script() {
-        if entry.count == line.count() {
-            let fault = fault_of(entry.fault);
-            let position = entry.position;
-            let (did, left) = effect(entry, waiting, line.places());
-            println!(rt; "{day} fault {fault} {position}: {did}")?;
+impl Path {
+    /// The carriers of a scenario; refused where places or script are out of range.
+    pub(crate) fn open(lines: CarrierLines) -> Result<Path, Refusal> {
+        let CarrierLines { places, script } = lines;
+        Ok(Path {
+            line: Scripted::open(places, script)?,
+            slip: Slip::new(),
+        })
+    }
+
+    // What each fault of the call that was just made did; `before` frames waited when the first acted.
+    fn tell_faults(&self, report: &Report<'_>, before: usize) -> io::Result<()> {
+        let mut waiting = before;
+        let now = self.line.count();
+        for entry in self.line.script().iter().filter(|entry| entry.count == now) {
+            let Entry {
+                fault,
+                position,
+                ..
+            } = *entry;
+            let (did, left) = effect(entry, waiting, self.line.places());
+            report.tell(format_args!("fault {fault} {position}: {did}"))?;
             waiting = left;
         }
-    }
-    Ok(())
-}
-
-fn refused(rt: &HostRuntime, day: &str, refusal: Refusal) -> io::Result<()> {
-    let number = refusal.number();
-    let words = refusal.words();
-    println!(rt; "{day} post refused {number}: {words}")
-}
-
-impl Path {
-    /// The carriers of a scenario, if it names one; refused where places or script are out of range.
-    pub(crate) fn open(
-        heap: Global,
-        scenario: &Scenario,
-    ) -> Result<Result<Option<Path>, Refusal>, AllocError> {
-        let Some(places) = scenario.places else {
-            return Ok(Ok(None));
-        };
-        let script = Vec::from_slice(heap, scenario.script.as_slice())?;
-        match Scripted::open(places, script) {
-            Ok(line) => Ok(Ok(Some(Path {
-                line,
-                slip: Slip::new(),
-            }))),
-            Err(refusal) => Ok(Err(refusal)),
-        }
+        Ok(())
     }
 
     // Posts a frame to the carrier.
-    fn post(&mut self, rt: &HostRuntime, day: &str, frame: &[u8]) -> io::Result<()> {
+    fn post(&mut self, report: &Report<'_>, frame: &[u8]) -> io::Result<()> {
         let before = self.line.waiting().len();
         match self.line.post(frame) {
             Ok(()) => {
-                println!(rt; "{day} posted")?;
-                faults(rt, day, &self.line, before.saturating_add(1))
+                report.tell("posted")?;
+                self.tell_faults(report, before.saturating_add(1))
             }
-            Err(refusal) => refused(rt, day, refusal),
+            Err(refusal) => report.tell(format_args!("post refused {refusal}")),
         }
     }
 
     // Passes a frame on to the slip, and takes it from there. Whether there was one.
-    fn take(&mut self, rt: &HostRuntime, day: &str) -> io::Result<bool> {
+    fn take(&mut self, report: &Report<'_>) -> io::Result<bool> {
         let before = self.line.waiting().len();
-        let mut buffer = [0; 64];
-        let outcome = relay(&mut self.line, &mut self.slip, &mut buffer);
-        faults(rt, day, &self.line, before)?;
-        match outcome {
-            Outcome::Moved(_) => self.read(rt, day),
-            Outcome::Nothing => {
-                println!(rt; "{day} collected nothing")?;
+        let mut buffer = [0; LONGEST_FRAME];
+        let passed = relay(&mut self.line, &mut self.slip, &mut buffer);
+        self.tell_faults(report, before)?;
+        match passed {
+            Ok(Some(Passed { posted: Ok(()), .. })) => self.read(report),
+            Ok(None) => {
+                report.tell("collected nothing")?;
                 Ok(false)
             }
-            Outcome::Refused(refusal) => {
-                refused(rt, day, refusal)?;
-                Ok(false)
-            }
-            Outcome::Kept { refusal, .. } => {
-                refused(rt, day, refusal)?;
+            Err(refusal)
+            | Ok(
+                Some(
+                    Passed {
+                        posted: Err(refusal),
+                        ..
+                    },
+                ),
+            ) => {
+                report.tell(format_args!("post refused {refusal}"))?;
                 Ok(false)
             }
         }
     }
 
-    // Takes the frame from the slip.
-    fn read(&mut self, rt: &HostRuntime, day: &str) -> io::Result<bool> {
-        let mut buffer = [0; 64];
-        match self.slip.collect(&mut buffer) {
-            Ok(Some(len)) => {
-                let digits = hex_of(rt.alloc(), buffer.get(0..len).unwrap_or(&[]))?;
-                println!(rt; "{day} collected {digits}")?;
-                Ok(true)
-            }
-            Ok(None) => Ok(false),
-            Err(_) => Ok(false),
-        }
+    // Takes the frame from the slip. Whether there was one.
+    fn read(&mut self, report: &Report<'_>) -> io::Result<bool> {
+        let mut buffer = [0; LONGEST_FRAME];
+        // Nothing is dropped here but an empty slip: a buffer of LONGEST_FRAME bytes is not refused.
+        let Ok(Some(length)) = self.slip.collect(&mut buffer) else {
+            return Ok(false);
+        };
+        let digits = hex::encode_upper(report.rt.alloc(), &buffer[..length])?;
+        report.tell(format_args!("collected {digits}"))?;
+        Ok(true)
     }
 
     /// Sends a day's frame, and takes what comes.
-    pub(crate) fn send(&mut self, rt: &HostRuntime, day: u32, frame: &[u8]) -> io::Result<()> {
-        let day = format!(in rt.alloc(); "day {day}")?;
-        self.post(rt, day.as_str(), frame)?;
-        let _found = self.take(rt, day.as_str())?;
+    pub(crate) fn send(&mut self, report: &Report<'_>, frame: &[u8]) -> io::Result<()> {
+        self.post(report, frame)?;
+        let _found = self.take(report)?;
         let waiting = self.line.waiting().len();
         let faults = self.line.faults();
-        let day = day.as_str();
-        println!(rt; "{day} waiting {waiting} faults-left {faults}")
+        report.tell(format_args!("waiting {waiting} faults-left {faults}"))
     }
 
     /// Takes what is left on the carrier.
-    pub(crate) fn drain(&mut self, rt: &HostRuntime) -> io::Result<()> {
+    pub(crate) fn drain(&mut self, report: &Report<'_>) -> io::Result<()> {
         for _ in 0..MOST_LEFT {
-            if !self.take(rt, "end")? {
+            if !self.take(report)? {
                 break;
             }
         }

@@ -1,196 +1,211 @@
 //! What the program tells of a scenario, one fact a line.
 use crate::agreement::make_steps;
-use crate::frames::{first_frame, hex_of};
+use crate::frames::first_frame;
 use crate::path::Path;
-use amounts::{Amounts, Notice, SecuredLot};
-use annex::{Annex, Row};
+use amounts::{Amounts, Lot, SecuredLot, amounts_of};
+use annex::{Annex, Exposure, Row};
 use message::Message;
 use refusal::Refusal;
-use scenario::{PanelLine, Scenario, Source, ValueLine};
-use std::io;
+use scenario::{Lines, Scenario, Source, ValueLine};
+use secured::telling;
+use std::{fmt, io};
 use valuer::{Panel, Sheet};
 
-fn refused(rt: &HostRuntime, day: u32, refusal: Refusal) -> io::Result<()> {
-    let number = refusal.number();
-    let words = refusal.words();
-    println!(rt; "day {day} refused {number}: {words}")
+/// What a fact is told of.
+#[derive(Clone, Copy, PartialEq, Eq, Debug)]
+pub(crate) enum Subject {
+    Terms,
+    Carrier,
+    Day(u32),
+    /// What is left after the last day.
+    End,
 }
 
-fn priced_lot(
-    rt: &HostRuntime,
-    day: u32,
-    number: usize,
-    entry: &SecuredLot,
-    annex: &Annex,
-    row: &Row,
-) -> io::Result<()> {
-    let (state, lot) = match *entry {
-        SecuredLot::Absent => return println!(rt; "day {day} lot {number} absent"),
-        SecuredLot::Held(lot) => ("held", lot),
-        SecuredLot::OwedBack(lot) => ("owed-back", lot),
-        SecuredLot::DeclineOwed(lot) => ("decline-owed", lot),
-    };
-    let class = lot.class;
-    let face = lot.face;
-    match amounts::value(annex, row, &lot) {
-        Ok(value) => println!(rt;
-            "day {day} lot {number} class {class} face {face} {state} value {value}"
-        ),
-        Err(refusal) => {
-            let refused = refusal.number();
-            println!(rt;
-                "day {day} lot {number} class {class} face {face} {state} refused {refused}"
-            )
+impl fmt::Display for Subject {
+    fn fmt<W: fmt::Write>(&self, f: &mut fmt::Formatter<W>) -> fmt::Result {
+        match self {
+            Subject::Terms => f.write_str("terms"),
+            Subject::Carrier => f.write_str("carrier"),
+            Subject::Day(day) => write!(f, "day {day}"),
+            Subject::End => f.write_str("end"),
         }
     }
 }
 
-fn told(rt: &HostRuntime, day: u32, amounts: &Amounts) -> io::Result<()> {
-    let support = amounts.support;
-    let delivery = amounts.delivery;
-    let excess = amounts.excess;
-    println!(rt; "day {day} credit-support-amount {support}")?;
-    println!(rt; "day {day} delivery-amount {delivery}")?;
-    println!(rt; "day {day} return-amount {excess}")?;
-    match amounts.notice {
-        Notice::Quiet => println!(rt; "day {day} finding quiet"),
-        Notice::Call { amount } => println!(rt; "day {day} finding call {amount}"),
-        Notice::Offer { amount } => println!(rt; "day {day} finding offer {amount}"),
-    }
+/// Tells the facts of one subject.
+#[derive(Clone, Copy)]
+pub(crate) struct Report<'a> {
+    pub(crate) rt: &'a HostRuntime,
+    pub(crate) subject: Subject,
 }
 
-// The message that notifies a finding.
-fn message_of(day: u32, exposure: i64, notice: Notice) -> Message {
-    match notice {
-        Notice::Quiet => Message::Quiet { day, exposure },
-        Notice::Call { amount } => Message::Call {
-            day,
-            exposure,
-            amount,
-        },
-        Notice::Offer { amount } => Message::Offer {
-            day,
-            exposure,
-            amount,
-        },
+impl<'a> Report<'a> {
+    pub(crate) fn tell(&self, fact: impl fmt::Display + Drop) -> io::Result<()> {
+        let subject = self.subject;
+        println!(self.rt; "{subject} {fact}")
     }
-}
 
-// The frame in which a finding would be sent, as the first message of an agreement, and its way.
-fn sent(rt: &HostRuntime, day: u32, message: &Message, path: &mut Option<Path>) -> io::Result<()> {
-    let frame = match first_frame(message) {
-        Ok(frame) => frame,
-        Err(refusal) => return refused(rt, day, refusal),
-    };
-    let digits = hex_of(rt.alloc(), frame.bytes())?;
-    println!(rt; "day {day} frame {digits}")?;
-    match path {
-        Some(path) => path.send(rt, day, frame.bytes()),
-        None => Ok(()),
-    }
-}
-
-// The amounts of a day by its row.
-fn day(
-    rt: &HostRuntime,
-    annex: &Annex,
-    row: &Row,
-    lots: &[SecuredLot],
-    path: &mut Option<Path>,
-) -> io::Result<()> {
-    let day = row.day;
-    let v = match amounts::total(annex, row, lots) {
-        Ok(v) => v,
-        Err(refusal) => return refused(rt, day, refusal),
-    };
-    let exposure = match row.check() {
-        Ok(exposure) => exposure,
-        Err(refusal) => return refused(rt, day, refusal),
-    };
-    println!(rt; "day {day} exposure {exposure}")?;
-    for (number, entry) in lots.iter().enumerate() {
-        priced_lot(rt, day, number, entry, annex, row)?;
-    }
-    println!(rt; "day {day} v {v}")?;
-    match amounts::weigh(annex, exposure, v) {
-        Ok(amounts) => {
-            told(rt, day, &amounts)?;
-            sent(rt, day, &message_of(day, exposure, amounts.notice), path)
-        }
-        Err(refusal) => refused(rt, day, refusal),
-    }
-}
-
-// The first panel of a day.
-fn panel_of(panels: &[PanelLine], day: u32) -> Option<PanelLine> {
-    for panel in panels {
-        if panel.day == day {
-            return Some(*panel);
-        }
-    }
-    None
-}
-
-// The row of a day by its panel of quotes; a day without a panel has an empty one.
-fn panel_row(scenario: &Scenario, day: u32) -> Result<Row, Refusal> {
-    let quotes = match panel_of(scenario.panels.as_slice(), day) {
-        Some(line) => scenario
-            .quotes
-            .as_slice()
-            .get(line.from..line.to)
-            .unwrap_or(&[]),
-        None => &[],
-    };
-    let panel = Panel::open(day, quotes)?;
-    Ok(valuer::read_row(&panel, day))
-}
-
-fn value(
-    rt: &HostRuntime,
-    scenario: &Scenario,
-    annex: &Annex,
-    line: &ValueLine,
-    path: &mut Option<Path>,
-) -> io::Result<()> {
-    let number = line.day;
-    let row = match line.source {
-        Source::Sheet => {
-            println!(rt; "day {number} source sheet")?;
-            valuer::read_row(&Sheet::new(scenario.rows.as_slice()), number)
-        }
-        Source::Panel => {
-            println!(rt; "day {number} source panel")?;
-            match panel_row(scenario, number) {
-                Ok(row) => row,
-                Err(refusal) => return refused(rt, number, refusal),
+    fn tell_lot(
+        &self,
+        number: usize,
+        entry: &SecuredLot,
+        annex: &Annex,
+        row: &Row,
+    ) -> io::Result<()> {
+        let state = entry.state();
+        let Some(lot) = entry.lot() else {
+            return self.tell(format_args!("lot {number} {state}"));
+        };
+        let Lot { class, face } = lot;
+        match amounts::value(annex, row, &lot) {
+            Ok(value) => self.tell(format_args!(
+                "lot {number} class {class} face {face} {state} value {value}"
+            )),
+            Err(refusal) => {
+                let refused = refusal.number();
+                self.tell(format_args!(
+                    "lot {number} class {class} face {face} {state} refused {refused}"
+                ))
             }
         }
-    };
-    day(rt, annex, &row, scenario.lots.as_slice(), path)
+    }
+
+    fn tell_amounts(&self, amounts: &Amounts) -> io::Result<()> {
+        let Amounts {
+            support,
+            delivery,
+            excess,
+            notice,
+        } = *amounts;
+        self.tell(format_args!("credit-support-amount {support}"))?;
+        self.tell(format_args!("delivery-amount {delivery}"))?;
+        self.tell(format_args!("return-amount {excess}"))?;
+        self.tell(format_args!("finding {notice}"))
+    }
 }
 
-fn refused_at_once(rt: &HostRuntime, what: &str, refusal: Refusal) -> io::Result<()> {
-    let number = refusal.number();
-    let words = refusal.words();
-    println!(rt; "{what} refused {number}: {words}")
+// What a day's row comes to.
+#[derive(Clone, Copy)]
+struct Weighed {
+    row: Row,
+    exposure: Exposure,
+    v: u64,
+    amounts: Amounts,
+}
+
+// The days of a scenario that are valued: by what, and which way their frames go.
+#[derive(Drop)]
+struct Valuation<'a> {
+    rt: &'a HostRuntime,
+    annex: Annex,
+    lines: &'a Lines,
+    path: Option<Path>,
+}
+
+impl<'a> Valuation<'a> {
+    // The row of a day; a day without a panel has an empty one.
+    // An arm for each source, here and where a day is resolved: they are valuers of two types.
+    fn row(&self, line: &ValueLine) -> Result<Row, Refusal> {
+        let day = line.day;
+        match line.source {
+            Source::Sheet => Ok(valuer::read_row(&Sheet::new(self.lines.rows.as_slice()), day)),
+            Source::Panel => {
+                let panel = Panel::open(day, self.lines.quotes_of(day))?;
+                Ok(valuer::read_row(&panel, day))
+            }
+        }
+    }
+
+    // The frame in which a message would be sent, as the first of an agreement, and its way.
+    fn send(&mut self, report: &Report<'_>, message: &Message) -> io::Result<()> {
+        let frame = match first_frame(message) {
+            Ok(frame) => frame,
+            Err(refusal) => return report.tell(format_args!("refused {refusal}")),
+        };
+        let digits = hex::encode_upper(self.rt.alloc(), frame.bytes())?;
+        report.tell(format_args!("frame {digits}"))?;
+        match &mut self.path {
+            Some(path) => path.send(report, frame.bytes()),
+            None => Ok(()),
+        }
+    }
+
+    // A day's row, and what it comes to.
+    fn weigh(&self, line: &ValueLine) -> Result<Weighed, Refusal> {
+        let row = self.row(line)?;
+        let v = amounts::total(&self.annex, &row, self.lines.lots.as_slice())?;
+        let exposure = row.check()?;
+        Ok(Weighed {
+            row,
+            exposure,
+            v,
+            amounts: amounts_of(&self.annex, exposure, v),
+        })
+    }
+
+    fn tell(&mut self, report: &Report<'_>, weighed: &Weighed) -> io::Result<()> {
+        let Weighed {
+            row,
+            exposure: Exposure {
+                hundredths: exposure,
+            },
+            v,
+            amounts,
+        } = *weighed;
+        report.tell(format_args!("exposure {exposure}"))?;
+        for (number, entry) in self.lines.lots.iter().enumerate() {
+            report.tell_lot(number, entry, &self.annex, &row)?;
+        }
+        report.tell(format_args!("v {v}"))?;
+        report.tell_amounts(&amounts)?;
+        self.send(report, &telling(row.day, exposure, amounts.notice))
+    }
+
+    fn value(&mut self, line: &ValueLine) -> io::Result<()> {
+        let report = Report {
+            rt: self.rt,
+            subject: Subject::Day(line.day),
+        };
+        let source = line.source;
+        report.tell(format_args!("source {source}"))?;
+        match self.weigh(line) {
+            Ok(weighed) => self.tell(&report, &weighed),
+            Err(refusal) => report.tell(format_args!("refused {refusal}")),
+        }
+    }
+}
+
+fn refused(rt: &HostRuntime, subject: Subject, refusal: Refusal) -> io::Result<()> {
+    Report { rt, subject }.tell(format_args!("refused {refusal}"))
 }
 
 /// The amounts of each day that the scenario wants valued, and the way of its frame; or the refusal of
-/// its terms or its carrier.
-pub(crate) fn valuation(rt: &HostRuntime, scenario: &Scenario) -> io::Result<()> {
-    let annex = match Annex::open(scenario.terms) {
+/// its terms or its carrier. Then the steps of its agreement.
+pub(crate) fn run(rt: &HostRuntime, scenario: Scenario) -> io::Result<()> {
+    let Scenario { terms, mut lines } = scenario;
+    // Two refusals, each told of a subject of its own.
+    let annex = match Annex::open(terms) {
         Ok(annex) => annex,
-        Err(refusal) => return refused_at_once(rt, "terms", refusal),
+        Err(refusal) => return refused(rt, Subject::Terms, refusal),
     };
-    let mut path = match Path::open(rt.alloc(), scenario)? {
+    let path = match lines.carrier.take().map(Path::open).transpose() {
         Ok(path) => path,
-        Err(refusal) => return refused_at_once(rt, "carrier", refusal),
+        Err(refusal) => return refused(rt, Subject::Carrier, refusal),
     };
-    for line in scenario.values.iter() {
-        value(rt, scenario, &annex, line, &mut path)?;
+    let mut valuation = Valuation {
+        rt,
+        annex,
+        lines: &lines,
+        path,
+    };
+    for line in lines.values.iter() {
+        valuation.value(line)?;
     }
-    if let Some(path) = &mut path {
-        path.drain(rt)?;
+    if let Some(path) = &mut valuation.path {
+        path.drain(&Report {
+            rt,
+            subject: Subject::End,
+        })?;
     }
-    make_steps(rt, scenario, annex)
+    make_steps(rt, &lines, annex)
 }

@@ -1,6 +1,5 @@
 //! What the program says of itself and of its input.
 use scenario::Unreadable;
-use std::alloc::{AllocError, Global};
 
 pub(crate) const HELP: &str = "margin: what a credit support annex asks for on a day
 
@@ -11,17 +10,6 @@ pub(crate) const HELP: &str = "margin: what a credit support annex asks for on a
 A scenario has one line for each fact; docs/SCENARIO.md has them all.
 The output has one fact a line. An unreadable scenario ends with status 1.
 ";
-
-/// What is wrong with a text that is no scenario, on one line.
-pub(crate) fn unreadable(heap: Global, error: Unreadable) -> Result<String, AllocError> {
-    match error {
-        Unreadable::Line { number, expected } => format!(in heap;
-            "line {number}: expected {expected}"
-        ),
-        Unreadable::Missing { expected } => format!(in heap; "at the end: expected {expected}"),
-        Unreadable::Memory => format!(in heap; "not enough memory"),
-    }
-}
 
 /// The line that an error speaks of.
 pub(crate) fn found(error: Unreadable, text: &str) -> Option<&str> {

@@ -52,31 +52,9 @@ same_message m m' h h' e = sym (message_of_body m h) ∙ ap message e ∙ messag
 pub body_length : (m : Message) → (0 < length (body_of m)) × (length (body_of m) ≤ 21)
 unfolding bytes_of
 body_length (Quiet day exposure) = omega arith
-body_length (Call day exposure amount) = omega arith
-body_length (Offer day exposure amount) = omega arith
-body_length (Agree day) = omega arith
-body_length (Dispute day amount) = omega arith
-body_length (Resolve day exposure amount) = omega arith
-body_length (Delivery day lot class face) = omega arith
-body_length (Substitute lot class face old) = omega arith
-body_length (Ask day lot) = omega arith
-body_length (Return lot) = omega arith
-body_length (Decline lot) = omega arith
-body_length (Satisfied day) = omega arith
-body_length (Release day) = omega arith
+body_length m = omega arith
 
 pub well_formed : (m : Message) → Malformed (body_of m) → ⊥
 unfolding bytes_of
 well_formed (Quiet day exposure) h = h (omega arith, refl)
-well_formed (Call day exposure amount) h = h (omega arith, refl)
-well_formed (Offer day exposure amount) h = h (omega arith, refl)
-well_formed (Agree day) h = h (omega arith, refl)
-well_formed (Dispute day amount) h = h (omega arith, refl)
-well_formed (Resolve day exposure amount) h = h (omega arith, refl)
-well_formed (Delivery day lot class face) h = h (omega arith, refl)
-well_formed (Substitute lot class face old) h = h (omega arith, refl)
-well_formed (Ask day lot) h = h (omega arith, refl)
-well_formed (Return lot) h = h (omega arith, refl)
-well_formed (Decline lot) h = h (omega arith, refl)
-well_formed (Satisfied day) h = h (omega arith, refl)
-well_formed (Release day) h = h (omega arith, refl)
+well_formed m h = h (omega arith, refl)

@@ -1,5 +1,5 @@
 -- The ranges of the fields, and the first field of a message that is out of its own.
-use Rattle.std.specs.Prelude.{ℕ, Bool, true, false, ◌&&◌, ℤ, pos, neg_ℤ, Some, None, Option, int_le, nat_le}
+use Rattle.std.specs.Prelude.{ℕ, Bool, true, false, ◌&&◌, ℤ, pos, neg_ℤ, Some, None, Option, List, [], ◌∷◌, int_le, nat_le}
 use Rattle.message.specs.declared.Message.{Message}
 use Rattle.message.specs.declared.Message.TheVariants.{Quiet, Call, Offer, Agree, Dispute, Resolve, Delivery, Substitute, Ask, Return, Decline, Satisfied, Release}
 
@@ -29,6 +29,11 @@ face_fits n = within 1 10000000000 n
 abbrev pub unless : Bool → ℕ → Option ℕ → Option ℕ
 unless true p further = further
 unless false p further = Some p
+
+-- the first position whose test does not hold
+abbrev pub first_unfit : List (ℕ × Bool) → Option ℕ
+first_unfit [] = None
+first_unfit (field ∷ fields) = unless field.1 field.0 (first_unfit fields)
 
 abbrev pub unfit_day : ℕ → Option ℕ
 unfit_day day = unless (day_fits day) 1 None

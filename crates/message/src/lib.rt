@@ -2,11 +2,15 @@
 //! their fields. Knows nothing of frames, ends and books.
 #![tactic(auto)]
 
-ghost use Rattle.std.specs.Prelude.{◌≡◌};
+ghost use Rattle.std.specs.Prelude.{◌≡◌, Some};
 ghost use Rattle.message.specs.Kinds.{from_secured, kind_of};
-ghost use Rattle.message.specs.Ranges.{unfit_day, unfit_lot, unfit_money, unfit_of};
+ghost use Rattle.message.specs.Ranges.{unfit_money, unfit_of};
+ghost use Rattle.message.specs.Words.{words_of};
 
-use crate::ranges::{amount_fits, class_fits, day_fits, exposure_fits, face_fits, lot_fits};
+use crate::ranges::{
+    amount_fits, class_fits, day_fits, exposure_fits, face_fits, first_unfit, lot_fits,
+};
+use std::fmt;
 
 pub mod ranges;
 
@@ -84,6 +88,7 @@ pub enum Message {
 
 impl Message {
     /// The number of the kind, the first byte of a body.
+    // The format's byte: an enum of the kinds would be `Message` again.
     pub fn kind(&self) -> u8
         ensures { result ≡ kind_of self.now }
     {
@@ -108,32 +113,28 @@ impl Message {
     pub fn is_from_secured(&self) -> bool
         ensures { result ≡ from_secured self.now }
     {
-        match *self {
+        matches!(
+            *self,
             Message::Quiet { .. }
-            | Message::Call { .. }
-            | Message::Offer { .. }
-            | Message::Resolve { .. }
-            | Message::Return { .. }
-            | Message::Decline { .. }
-            | Message::Satisfied { .. } => true,
-            _ => false,
-        }
+                | Message::Call { .. }
+                | Message::Offer { .. }
+                | Message::Resolve { .. }
+                | Message::Return { .. }
+                | Message::Decline { .. }
+                | Message::Satisfied { .. }
+        )
     }
 
     /// The position in the body of the first field that is out of its range.
+    // An Option: who reads, writes or admits makes a refusal of its own of the position.
     pub fn unfit(&self) -> Option<usize>
         ensures { result ≡ unfit_of self.now }
     {
         match *self {
             Message::Quiet { day, exposure } => {
-                if !day_fits(day) {
-                    Some(1)
-                } else if !exposure_fits(exposure) {
-                    Some(5)
-                } else {
-                    None
-                }
+                first_unfit(&[(1, day_fits(day)), (5, exposure_fits(exposure))])
             }
+            // Two arms alike: a pattern that binds an `i64` in each of its alternatives gets no proof.
             Message::Call {
                 day,
                 exposure,
@@ -149,91 +150,96 @@ impl Message {
                 exposure,
                 amount,
             } => unfit_money(day, exposure, 0, amount),
-            Message::Agree { day } => unfit_day(day),
-            Message::Satisfied { day } => unfit_day(day),
-            Message::Release { day } => unfit_day(day),
+            Message::Agree { day } | Message::Satisfied { day } | Message::Release { day } => {
+                first_unfit(&[(1, day_fits(day))])
+            }
             Message::Dispute { day, amount } => {
-                if !day_fits(day) {
-                    Some(1)
-                } else if !amount_fits(0, amount) {
-                    Some(5)
-                } else {
-                    None
-                }
+                first_unfit(&[(1, day_fits(day)), (5, amount_fits(0, amount))])
             }
             Message::Delivery {
                 day,
                 lot,
                 class,
                 face,
-            } => {
-                if !day_fits(day) {
-                    Some(1)
-                } else if !lot_fits(lot) {
-                    Some(5)
-                } else if !class_fits(class) {
-                    Some(6)
-                } else if !face_fits(face) {
-                    Some(7)
-                } else {
-                    None
-                }
-            }
+            } => first_unfit(&[
+                (1, day_fits(day)),
+                (5, lot_fits(lot)),
+                (6, class_fits(class)),
+                (7, face_fits(face)),
+            ]),
             Message::Substitute {
                 lot,
                 class,
                 face,
                 old,
-            } => {
-                if !lot_fits(lot) {
-                    Some(1)
-                } else if !class_fits(class) {
-                    Some(2)
-                } else if !face_fits(face) {
-                    Some(3)
-                } else if !lot_fits(old) {
-                    Some(11)
-                } else {
-                    None
-                }
+            } => first_unfit(&[
+                (1, lot_fits(lot)),
+                (2, class_fits(class)),
+                (3, face_fits(face)),
+                (11, lot_fits(old)),
+            ]),
+            Message::Ask { day, lot } => first_unfit(&[(1, day_fits(day)), (5, lot_fits(lot))]),
+            Message::Return { lot } | Message::Decline { lot } => {
+                first_unfit(&[(1, lot_fits(lot))])
             }
-            Message::Ask { day, lot } => {
-                if !day_fits(day) {
-                    Some(1)
-                } else if !lot_fits(lot) {
-                    Some(5)
-                } else {
-                    None
-                }
-            }
-            Message::Return { lot } => unfit_lot(lot),
-            Message::Decline { lot } => unfit_lot(lot),
         }
     }
 }
 
-fn unfit_day(day: u32) -> Option<usize>
-    ensures { result ≡ unfit_day day }
-{
-    if !day_fits(day) { Some(1) } else { None }
-}
+/// What the message says to a reader, on one line.
+impl fmt::Display for Message {
+    ghost output = { λ message. Some (words_of message) };
 
-fn unfit_lot(lot: u8) -> Option<usize>
-    ensures { result ≡ unfit_lot lot }
-{
-    if !lot_fits(lot) { Some(1) } else { None }
+    fn fmt<W: fmt::Write>(&self, f: &mut fmt::Formatter<W>) -> fmt::Result {
+        match *self {
+            Message::Quiet { day, exposure } => write!(f, "quiet day {day} exposure {exposure}"),
+            Message::Call {
+                day,
+                exposure,
+                amount,
+            } => write!(f, "call day {day} exposure {exposure} amount {amount}"),
+            Message::Offer {
+                day,
+                exposure,
+                amount,
+            } => write!(f, "offer day {day} exposure {exposure} amount {amount}"),
+            Message::Agree { day } => write!(f, "agree day {day}"),
+            Message::Dispute { day, amount } => write!(f, "dispute day {day} undisputed {amount}"),
+            Message::Resolve {
+                day,
+                exposure,
+                amount,
+            } => write!(f, "resolve day {day} exposure {exposure} amount {amount}"),
+            Message::Delivery {
+                day,
+                lot,
+                class,
+                face,
+            } => write!(f, "delivery day {day} lot {lot} class {class} face {face}"),
+            Message::Substitute {
+                lot,
+                class,
+                face,
+                old,
+            } => write!(
+                f,
+                "substitute lot {lot} class {class} face {face} for lot {old}"
+            ),
+            Message::Ask { day, lot } => write!(f, "ask day {day} lot {lot}"),
+            Message::Return { lot } => write!(f, "return lot {lot}"),
+            Message::Decline { lot } => write!(f, "decline lot {lot}"),
+            Message::Satisfied { day } => write!(f, "satisfied day {day}"),
+            Message::Release { day } => write!(f, "release day {day}"),
+        }
+    }
 }
 
 fn unfit_money(day: u32, exposure: i64, least: u64, amount: u64) -> Option<usize>
     ensures { result ≡ unfit_money day exposure least amount }
 {
-    if !day_fits(day) {
-        Some(1)
-    } else if !exposure_fits(exposure) {
-        Some(5)
-    } else if !amount_fits(least, amount) {
-        Some(13)
-    } else {
-        None
-    }
+    first_unfit(&[
+        (1, day_fits(day)),
+        (5, exposure_fits(exposure)),
+        (13, amount_fits(least, amount)),
+    ])
 }

@@ -1,4 +1,2 @@
 pub mod Widths
 pub mod Fronts
-pub mod Fields
-pub mod Puts

@@ -1,13 +1,15 @@
 -- Calls and bookings keep the pledgor's lots in range.
-use Rattle.std.proofs.Common.{◌≡◌, ℕ, ◌-◌, ◌<◌, ◌≤◌, Bool, true, false, cond, ◌&&◌, eqb, ltb, leb, ◌≢◌, List, map, length, replicate, ℤ, IfOk, Ok, Err, Result, sym, refl, ap, ◌∙◌, subst, arith, length-append, length-set, ltb-true, eqb-true, le-leb, leb-false, leb-true}
+use Rattle.std.proofs.Common.{◌≡◌, ℕ, ◌-◌, ◌<◌, ◌≤◌, Bool, true, false, cond, ◌&&◌, eqb, ltb, leb, ◌≢◌, List, map, length, get_or, replicate, ℤ, Some, IfOk, Ok, Err, Result, sym, refl, ap, ◌∙◌, subst, ⊎_elim, arith, length-append, length-set, ltb-true, eqb-true, le-leb, leb-false, leb-true}
 use lib.ListN.{length-replicate}
 use borrow.Author.Tests.{clash, eqb-false}
-use Rattle.std.proofs.lemmas.List.{get_or_append_left, get_or-append_right, get_or-map, get_or-set_same, get_or-set_other, length-map}
-use Rattle.std.proofs.lemmas.Bool.{and_parts}
+use Rattle.std.proofs.lemmas.List.Sums.{list_all-from_AllPass}
+use Rattle.std.proofs.lemmas.List.{get_or_append_left, get_or-append_right, get_or-map, get_or_default, get_or-set_same, get_or-set_other, length-map}
+use Rattle.std.proofs.lemmas.Bool.{and_parts, cases_lt}
+use Rattle.std.proofs.lemmas.Option.{cond_some}
 use Rattle.refusal.specs.declared.Refusal.{Refusal}
 use Rattle.annex.specs.declared.agreed.Annex.{Annex}
 use Rattle.annex.specs.declared.row.Row.{Row}
-use Rattle.annex.specs.Every.{every}
+use Rattle.std.specs.List.{list_all}
 use Rattle.annex.specs.Row.{checked_row}
 use Rattle.annex.proofs.Tests.{every_at}
 use Rattle.amounts.specs.declared.lots.Lot.{Lot}
@@ -21,12 +23,12 @@ use Rattle.day.specs.Days.{is_called, is_offered, is_open}
 use Rattle.message.specs.declared.Message.{Message}
 use Rattle.message.specs.declared.Message.TheVariants.{Quiet, Call, Offer, Agree, Dispute, Resolve, Delivery, Substitute, Ask, Return, Decline, Satisfied, Release}
 use Rattle.pledgor.specs.declared.state.PledgorState.{PledgorState}
-use Rattle.pledgor.specs.Bookings.{asked_at, books, fits}
+use Rattle.pledgor.specs.Bookings.{asked_at, booked, books, fits}
 use Rattle.pledgor.specs.Calls.{PledgorCall, answer, deliver, substitute, ask, release, answering, answer_of, drafts, with_day, with_lot}
 use Rattle.pledgor.specs.Lots.{home_at, is_asked, is_home, is_posted, lot_at, moved, no_lot, posted_at, terms_of, value_by}
 use Rattle.pledgor.specs.Opening.{at_home, opened}
 use Rattle.pledgor.specs.Sound.{Ranged}
-use Rattle.pledgor.proofs.Tables.{all_every, repeated}
+use Rattle.pledgor.proofs.Tables.{repeated}
 
 home_asked : (x : Place) → is_home x ≡ true → is_asked x ≡ true → ⊥
 home_asked Home h a = clash a
@@ -65,7 +67,7 @@ module _ (p : PledgorState) (r : Ranged p) where
 
   -- every lot that is posted is in range
   pub table_fits_lem : table_fits counts_at_pledgor p.lots ≡ true
-  table_fits_lem = rw (le-leb (length p.lots) 32 (omega (arith, r.1))) (all_every (λ x. counted_fits (counts_at_pledgor x)) no_lot p.lots (λ k h. go k (leb p.count k) refl)) where
+  table_fits_lem = rw (le-leb (length p.lots) 32 (omega (arith, r.1))) (list_all-from_AllPass (λ x. counted_fits (counts_at_pledgor x)) p.lots (λ k d h. ap (λ x. counted_fits (counts_at_pledgor x)) (get_or_default p.lots k d no_lot h) ∙ go k (leb p.count k) refl)) where
     home : (x : PledgorLot) → is_home x.place ≡ true → counted_fits (counts_at_pledgor x) ≡ true
     home x f = place x.place f where
       place : (y : Place) → is_home y ≡ true → counted_fits (counts_at_pledgor (moved x y)) ≡ true
@@ -102,13 +104,6 @@ module _ (p : PledgorState) (r : Ranged p) where
   books_ranged (Satisfied n) t = r
   books_ranged (Release n) t = r
 
-  -- booking, whether it fits or not
-  pub booked_ranged : (m : Message) → Ranged (cond (fits p m) (books p m) p)
-  booked_ranged m = go (fits p m) refl where
-    go : (b : Bool) → fits p m ≡ b → Ranged (cond b (books p m) p)
-    go true e = books_ranged m e
-    go false e = r
-
   Drafted : Result (Message × PledgorState) Refusal → Type 0
   Drafted x = IfOk x (λ z. Ranged z.1)
 
@@ -135,8 +130,8 @@ module _ (p : PledgorState) (r : Ranged p) where
   answers row (Ok e) = behind (eqb row.day p.day.number) _ _ (λ _. behind (is_called p.day.state) _ _ (λ _. answer_ranged (due_amount (terms_of p) e (value_by p row))))
 
 -- an answer to a call by a row of its day
-pub answering_called : (p : PledgorState) (r : Row) (e : ℤ) (z : Message × PledgorState) → eqb r.day p.day.number ≡ true → is_called p.day.state ≡ true → z ≡ answer_of p (due_amount (terms_of p) e (value_by p r)) → Ok z ≡ answering p r (Ok e)
-answering_called p r e z h k q = rw (h, k) (cc)
+pub answering_called : (p : PledgorState) (r : Row) (e : ℤ) (z : Message × PledgorState) → checked_row r ≡ Ok e → eqb r.day p.day.number ≡ true → is_called p.day.state ≡ true → z ≡ answer_of p (due_amount (terms_of p) e (value_by p r)) → Ok z ≡ answering p r (checked_row r)
+answering_called p r e z x h k q = rw (x, h, k) (cc)
 
 -- what a call leaves
 drafts_ranged : (p : PledgorState) → Ranged p → (c : PledgorCall) → IfOk (drafts p c) (λ z. Ranged z.1)
@@ -149,17 +144,32 @@ drafts_ranged p r (substitute new old) = behind p r (home_at p new && posted_at 
 drafts_ranged p r (ask l) = behind p r (posted_at p l) _ _ (λ t. behind p r (is_offered p.day.state) _ _ (λ _. move_ranged p r l Asked (own_posted p r l t)))
 drafts_ranged p r release = behind p r (is_offered p.day.state) _ _ (λ _. r)
 
-pub drafted_ranged : (p : PledgorState) → Ranged p → (c : PledgorCall) (x : Result (Message × PledgorState) Refusal) → x ≡ drafts p c → IfOk x (λ z. Ranged z.1)
-drafted_ranged p r c x e = subst (λ y. IfOk y (λ z. Ranged z.1)) (sym e) (drafts_ranged p r c)
+pub drafted_ranged : (p : PledgorState) → Ranged p → (c : PledgorCall) (m : Message) (q : PledgorState) → drafts p c ≡ Ok (m, q) → Ranged q
+drafted_ranged p r c m q e = subst (λ y. IfOk y (λ z. Ranged z.1)) e (drafts_ranged p r c)
+
+-- the book after a message that fits
+pub booked_ranged : (p : PledgorState) → Ranged p → (m : Message) (q : PledgorState) → booked p m ≡ Some q → Ranged q
+booked_ranged p r m q e = let b = cond_some (fits p m) (books p m) q e in subst Ranged b.1 (books_ranged p r m b.0)
 
 -- the book as opened
-pub opened_ranged : (a : Annex) (ls : List Lot) → length ls ≤ 32 → every lot_fits ls ≡ true → Ranged (opened a ls)
-opened_ranged a ls h e = (
-  h,
-  (let x = length-append (map at_home ls) (replicate (32 - length ls) no_lot) in let y = length-map ls at_home in let z = length-replicate (32 - length ls) no_lot in omega arith),
-  (λ k i.
+module _ (a : Annex) (ls : List Lot) where
+  opened_past : (k : ℕ) → length ls ≤ k → lot_at (opened a ls) k ≡ no_lot
+  opened_past k i = get_or-append_right (map at_home ls) (replicate (32 - length ls) no_lot) (length ls) k no_lot (length-map ls at_home) i ∙ repeated (32 - length ls) (k - length ls) no_lot
+
+  opened_at : (k : ℕ) → k < length ls → lot_at (opened a ls) k ≡ at_home (get_or ls k no_lot.lot)
+  opened_at k i =
       let j : k < length (map at_home ls) = omega (arith, length-map ls at_home) in
-      let x = get_or_append_left (map at_home ls) (replicate (32 - length ls) no_lot) no_lot k j ∙ get_or-map at_home ls k no_lot.lot no_lot i in
-      ap (λ y. lot_fits y.lot) x ∙ every_at lot_fits no_lot.lot ls e k i),
-  (λ k i. ap (λ y. is_home y.place) (get_or-append_right (map at_home ls) (replicate (32 - length ls) no_lot) (length ls) k no_lot (length-map ls at_home) i ∙ repeated (32 - length ls) (k - length ls) no_lot)),
-)
+      get_or_append_left (map at_home ls) (replicate (32 - length ls) no_lot) no_lot k j ∙ get_or-map at_home ls k no_lot.lot no_lot i
+
+  -- all lots are home
+  pub opened_home : (k : ℕ) → (lot_at (opened a ls) k).place ≡ Home
+  opened_home k = ⊎_elim (λ h. ap (λ x. x.place) (opened_at k h)) (λ h. ap (λ x. x.place) (opened_past k h)) (cases_lt k (length ls))
+
+  -- and in range
+  pub opened_ranged : length ls ≤ 32 → list_all lot_fits ls ≡ true → Ranged (opened a ls)
+  opened_ranged h e = (
+    h,
+    (let x = length-append (map at_home ls) (replicate (32 - length ls) no_lot) in let y = length-map ls at_home in let z = length-replicate (32 - length ls) no_lot in omega arith),
+    (λ k i. ap (λ y. lot_fits y.lot) (opened_at k i) ∙ every_at lot_fits no_lot.lot ls e k i),
+    (λ k i. ap (λ y. is_home y.place) (opened_past k i)),
+  )

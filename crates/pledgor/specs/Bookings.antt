@@ -1,5 +1,5 @@
 -- Booking: which messages of the secured end fit the pledgor book, and the book after one.
-use Rattle.std.specs.Prelude.{ℕ, Bool, true, false, ◌&&◌, List, ◌==◌, nat_lt, slice_set}
+use Rattle.std.specs.Prelude.{ℕ, Bool, true, false, cond, ◌&&◌, List, Some, None, Option, ◌==◌, nat_lt, slice_set}
 use Rattle.amounts.specs.declared.lots.Place.TheVariants.{Home, Posted}
 use Rattle.amounts.specs.declared.lots.PledgorLot.{PledgorLot}
 use Rattle.day.specs.declared.Day.{Day}
@@ -85,3 +85,7 @@ fits p m = notice_fits p.day m && lots_fit p m
 -- the book after one that fits
 abbrev pub books : PledgorState → Message → PledgorState
 books p m = record { annex = p.annex; day = told p.day m; count = p.count; lots = lots_after p m }
+
+-- the book after a message, if it fits
+abbrev pub booked : PledgorState → Message → Option PledgorState
+booked p m = cond (fits p m) (Some (books p m)) None

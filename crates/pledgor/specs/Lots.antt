@@ -40,6 +40,16 @@ lot_at p n = slice_index_or p.lots n no_lot
 abbrev pub moved : PledgorLot → Place → PledgorLot
 moved x y = record { place = y; lot = x.lot }
 
+-- the one place is the other
+abbrev pub is_place : Place → Place → Bool
+is_place Home x = is_home x
+is_place Posted x = is_posted x
+is_place Asked x = is_asked x
+
+-- a lot of the pledgor that is at a place
+abbrev pub own_at : PledgorState → ℕ → Place → Bool
+own_at p l y = nat_lt l p.count && is_place y (lot_at p l).place
+
 -- a lot of the pledgor that is home
 abbrev pub home_at : PledgorState → ℕ → Bool
 home_at p l = nat_lt l p.count && is_home (lot_at p l).place

@@ -3,7 +3,7 @@ use Rattle.std.specs.Prelude.{◌-◌, cond, ◌&&◌, List, ◌++◌, map, leng
 use Rattle.refusal.specs.declared.Refusal.{Refusal}
 use Rattle.refusal.specs.declared.Refusal.TheVariants as refused
 use Rattle.annex.specs.declared.agreed.Annex.{Annex}
-use Rattle.annex.specs.Every.{every}
+use Rattle.std.specs.List.{list_all}
 use Rattle.amounts.specs.declared.lots.Lot.{Lot}
 use Rattle.amounts.specs.declared.lots.Place.TheVariants.{Home}
 use Rattle.amounts.specs.declared.lots.PledgorLot.{PledgorLot}
@@ -26,4 +26,4 @@ opened a ls = record { annex = a; day = no_day; count = length ls; lots = table 
 
 -- opening: 10 for a 33rd lot or one out of range
 abbrev pub opens : Annex → List Lot → Result PledgorState Refusal
-opens a ls = cond (nat_le (length ls) 32 && every lot_fits ls) (Ok (opened a ls)) (Err refused.Lot)
+opens a ls = cond (nat_le (length ls) 32 && list_all lot_fits ls) (Ok (opened a ls)) (Err refused.Lot)

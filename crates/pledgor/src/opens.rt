@@ -1,6 +1,6 @@
 //! Opening the book.
 ghost use Rattle.std.specs.Prelude.{◌≡◌, ◌≤◌, length};
-ghost use Rattle.annex.specs.Every.{every};
+ghost use Rattle.std.specs.List.{list_all};
 ghost use Rattle.amounts.specs.Lots.{lot_fits};
 ghost use Rattle.pledgor.specs.Books.{plainly};
 ghost use Rattle.pledgor.specs.Opening.{opens, table as Table};
@@ -15,14 +15,9 @@ use refusal::Refusal;
 
 // Whether every lot is in range.
 fn all_fit(lots: &[Lot]) -> bool
-    ensures { result ≡ every lot_fits lots.now }
+    ensures { result ≡ list_all lot_fits lots.now }
 {
-    for lot in lots {
-        if !lot.fits() {
-            return false;
-        }
-    }
-    true
+    lots.iter().all(|lot| lot.fits())
 }
 
 // The lots, all home, in a table of 32.
@@ -30,11 +25,7 @@ fn table(lots: &[Lot]) -> [PledgorLot; 32]
     requires { length lots.now ≤ 32 }
     ensures { result ≡ Table lots.now }
 {
-    let none = PledgorLot {
-        place: Place::Home,
-        lot: Lot { class: 0, face: 0 },
-    };
-    let mut entries = [none; 32];
+    let mut entries = [PledgorLot::default(); 32];
     for (at, lot) in lots.iter().enumerate() {
         entries[at] = PledgorLot {
             place: Place::Home,

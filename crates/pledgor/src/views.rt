@@ -21,18 +21,16 @@ impl PledgorBook {
         self.state.count
     }
 
-    /// The entry of a lot; home, of no class and face, past the pledgor's own.
+    /// The entry of a lot; home, of class 0 and face 0, past the pledgor's own.
+    // No Option: a table has 32 entries at either end, and the two are compared entry by entry.
     pub fn lot(&self, lot: u8) -> PledgorLot
         ensures { result ≡ lot_at self.now.state lot }
     {
-        if lot < 32 {
-            self.state.lots[lot as usize]
-        } else {
-            PledgorLot {
-                place: Place::Home,
-                lot: Lot { class: 0, face: 0 },
-            }
-        }
+        self.state
+            .lots
+            .get(usize::from(lot))
+            .copied()
+            .unwrap_or_default()
     }
 
     /// The lot's class and face, where it is in the position: posted or asked.
@@ -42,8 +40,7 @@ impl PledgorBook {
         let entry = self.lot(lot);
         match entry.place {
             Place::Home => None,
-            Place::Posted => Some(entry.lot),
-            Place::Asked => Some(entry.lot),
+            Place::Posted | Place::Asked => Some(entry.lot),
         }
     }
 }

@@ -1,5 +1,5 @@
 -- What each refusal tells: its number, its words and, of a frame fault, its layer, message and position.
-use Rattle.std.specs.Prelude.{ℕ, List, Some, None, codes, Option}
+use Rattle.std.specs.Prelude.{ℕ, List, ◌++◌, Some, None, codes, decimal, Option}
 use Rattle.refusal.specs.declared.Layer.{Layer}
 use Rattle.refusal.specs.declared.Layer.TheVariants as layer
 use Rattle.refusal.specs.declared.Refusal.{Refusal}
@@ -104,3 +104,14 @@ words_for BelowAmount = codes "what was delivered is below the amount"
 words_for WeighingDiffers = codes "weighing the row does not give the finding"
 words_for Unacknowledged = codes "eight messages are unacknowledged"
 words_for LastNumber = codes "the last message number has been issued"
+
+-- a refusal on one line: its number and its words
+abbrev pub line_of : Refusal → List ℕ
+line_of r = decimal (number_of r) ++ (codes ": " ++ words_for r)
+
+-- the word of each layer
+abbrev pub layer_word : Layer → List ℕ
+layer_word layer.Frame = codes "frame"
+layer_word layer.Message = codes "message"
+layer_word layer.Link = codes "link"
+layer_word layer.Annex = codes "annex"

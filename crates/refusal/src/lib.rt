@@ -2,11 +2,14 @@
 //! and, for a frame fault, with what it tells about the frame. Knows nothing of what raises it.
 #![tactic(auto)]
 
-ghost use Rattle.std.specs.Prelude.{◌≡◌};
-ghost use Rattle.refusal.specs.Numbers.{layer_of, message_of, number_of, position_of, words_for};
+ghost use Rattle.std.specs.Prelude.{◌≡◌, Some};
+ghost use Rattle.refusal.specs.Numbers.{layer_of, layer_word, line_of, message_of, number_of, position_of, words_for};
+
+use std::error::Error;
+use std::fmt;
 
 /// Why something is refused. The first five are frame faults: what is wrong with a collected frame.
-#[derive(Clone, Copy)]
+#[derive(Clone, Copy, PartialEq, Eq, Debug)]
 pub enum Refusal {
     /// The frame is too short or too long.
     FrameLength,
@@ -45,7 +48,7 @@ pub enum Refusal {
 }
 
 /// The part of the system that a frame fault belongs to.
-#[derive(Clone, Copy)]
+#[derive(Clone, Copy, PartialEq, Eq, Debug)]
 pub enum Layer {
     Frame,
     Message,
@@ -97,9 +100,9 @@ impl Refusal {
         ensures { result ≡ message_of self.now }
     {
         match *self {
-            Refusal::Body { message, .. } => Some(message),
-            Refusal::Acknowledgement { message } => Some(message),
-            Refusal::Misfit { message } => Some(message),
+            Refusal::Body { message, .. }
+            | Refusal::Acknowledgement { message }
+            | Refusal::Misfit { message } => Some(message),
             _ => None,
         }
     }
@@ -109,8 +112,7 @@ impl Refusal {
         ensures { result ≡ position_of self.now }
     {
         match *self {
-            Refusal::Trailer { position } => Some(position),
-            Refusal::Body { position, .. } => Some(position),
+            Refusal::Trailer { position } | Refusal::Body { position, .. } => Some(position),
             _ => None,
         }
     }
@@ -139,5 +141,29 @@ impl Refusal {
             Refusal::Unacknowledged => "eight messages are unacknowledged",
             Refusal::LastNumber => "the last message number has been issued",
         }
+    }
+}
+
+/// The number, and what it says to a reader.
+impl fmt::Display for Refusal {
+    ghost output = { λ refusal. Some (line_of refusal) };
+
+    fn fmt<W: fmt::Write>(&self, f: &mut fmt::Formatter<W>) -> fmt::Result {
+        write!(f, "{}: {}", self.number(), self.words())
+    }
+}
+
+impl Error for Refusal {}
+
+impl fmt::Display for Layer {
+    ghost output = { λ layer. Some (layer_word layer) };
+
+    fn fmt<W: fmt::Write>(&self, f: &mut fmt::Formatter<W>) -> fmt::Result {
+        f.write_str(match self {
+            Layer::Frame => "frame",
+            Layer::Message => "message",
+            Layer::Link => "link",
+            Layer::Annex => "annex",
+        })
     }
 }

@@ -1,20 +1,11 @@
 -- What holds of every relay.
-use Rattle.std.proofs.Common.{◌≡◌, ℕ, ◌≤◌, List, [], ◌∷◌, ◌++◌, length, take, drop, IfSome, Some, None, Ok, Err, Option, Result, sym, ap, ◌∙◌, inl, inr, arith}
+use Rattle.std.proofs.Common.{◌≡◌, ℕ, List, [], ◌∷◌, ◌++◌, length, take, drop, Some, sym, ap, ◌∙◌, inl, inr}
 use Rattle.std.proofs.lemmas.List.{take_at}
-use Rattle.refusal.specs.declared.Refusal.{Refusal}
 use Rattle.refusal.specs.Numbers.{number_of}
-use Rattle.carrier.specs.Means.{Fit, Means, Sound}
-use Rattle.carrier.specs.Rules.{Collected, PostRefused, Taken}
-use Rattle.carrier.proofs.Keep.{gathered_frame, gathered_length, plain_collect, plain_post}
-use Rattle.relay.specs.Relays.{Found, KeptOnlyWhenFull, MovedWithoutAFall, RelaysStand, WasFull, Went}
-
-wide_enough : (o : Option ℕ) (b : List ℕ) → 64 ≤ length b → IfSome o (λ n. (1 ≤ n) × (n ≤ 64)) → IfSome o (λ n. n ≤ length b)
-wide_enough None b h l = tt
-wide_enough (Some n) b h l = omega (arith, l.1)
-
-pub found : (m : Means) (buffer : List ℕ) (r : Result (Option ℕ) Refusal) (n : Means) (filled : List ℕ) → Sound m → Collected m buffer r n filled → Found m buffer r n filled
-found m buffer (Ok o) n filled s k = (k, wide_enough o buffer k.wide (gathered_length s k))
-found m buffer (Err e) n filled s k = k
+use Rattle.carrier.specs.Means.{Fit, Means}
+use Rattle.carrier.specs.Rules.{PostRefused, Taken}
+use Rattle.carrier.proofs.Keep.{gathered_frame, plain_collect, plain_post}
+use Rattle.relay.specs.Relays.{KeptOnlyWhenFull, MovedWithoutAFall, RelaysStand, WasFull, Went}
 
 -- the frame that is posted is the frame that left
 went : (ws : List (List ℕ)) (buffer : List ℕ) (n : ℕ) (rest : List (List ℕ)) (filled : List ℕ) (out₀ out₁ : List (List ℕ)) → Taken ws buffer (Some n) rest filled → out₁ ≡ out₀ ++ (take n filled ∷ []) → Went ws out₀ rest out₁

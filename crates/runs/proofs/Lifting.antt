@@ -1,6 +1,5 @@
 -- What a carrier does to the bytes of frames, as what a channel of the law does to the frames.
-use Rattle.std.proofs.Common.{◌≡◌, ℕ, ◌+◌, ◌<◌, ◌≤◌, List, [], ◌∷◌, ◌++◌, map, length, take, drop, Some, None, Ok, Err, Option, Result, sym, refl, ap, ◌∙◌, subst, inl, inr, arith}
-use mathlib.Core.Option as maybe
+use Rattle.std.proofs.Common.{◌≡◌, ℕ, ◌+◌, ◌<◌, ◌≤◌, List, [], ◌∷◌, ◌++◌, map, length, take, drop, option_map, Some, None, Ok, Err, Option, Result, sym, refl, ap, ◌∙◌, inl, inr, arith}
 use Rattle.std.proofs.lemmas.List.{length-map, map_push, take_at}
 use Rattle.refusal.specs.declared.Refusal.{Refusal}
 use Rattle.refusal.specs.Numbers.{number_of}
@@ -14,7 +13,7 @@ use Rattle.carrier.specs.Rules.{Posted, PostRefused, Taken}
 use Rattle.law.specs.Link as law
 use Rattle.law.specs.Link.{Chan, Frame}
 use Rattle.law.proofs.Lift.{lifts}
-use Rattle.runs.specs.Turns.{Gathers, frame_in}
+use Rattle.runs.specs.Turns.{Gathers}
 use Rattle.runs.proofs.Acting.{acts_law}
 
 -- the frame of the law as a frame of the wire
@@ -36,7 +35,7 @@ chan_of ws m = record { waiting = ws; places = m.places; faults = m.faults }
 faulted_by : {p p' f g n : ℕ} {ws vs : List (Frame Message)} → p' ≡ p → law.Acts p n ws vs → g + n ≤ f →
     law.Faulted (record { waiting = ws; places = p; faults = f }) (record { waiting = vs; places = p'; faults = g })
 faulted_by {p} {p'} {f} {g} {n} {ws} {vs} e r l =
-    subst (λ (k : ℕ). law.Faulted (record { waiting = ws; places = p; faults = f }) (record { waiting = vs; places = k; faults = g })) (sym e) (law.faulted r l)
+    rw e (law.faulted r l)
 
 pub record Faults (m n : Means) (xs : List (Frame Message)) (bytes : List (List ℕ)) : Type 0 where
   pub us : List (Frame Message)
@@ -47,50 +46,41 @@ faults : (m n : Means) (acts : List Act) (xs : List (Frame Message)) (ws bytes :
     Acts m.places acts ws bytes → n.places ≡ m.places → n.faults + length acts ≤ m.faults → Faults m n xs bytes
 faults m n acts xs ws bytes e a p l =
     let r = lifts (Frame Message) (List ℕ) bytes_of m.places (length acts) xs bytes
-    (acts_law m.places acts (map bytes_of xs) bytes (subst (λ (k : List (List ℕ)). Acts m.places acts k bytes) e a)) in
+    (acts_law m.places acts (map bytes_of xs) bytes (rw (← e) a)) in
     record { us = r.0; waits = r.1; does = faulted_by p r.2 l }
-
-abbrev pub written_in : maybe.Option (Frame Message) → Option (List ℕ)
-written_in maybe.none = None
-written_in (maybe.some u) = Some (bytes_of u)
 
 -- the frame that leaves a list of waiting ones, and what stays
 abbrev Leaves : List (List ℕ) → Option (List ℕ) → List (List ℕ) → Type 0
 Leaves ws None rest = (ws ≡ []) × (rest ≡ [])
 Leaves ws (Some f) rest = ws ≡ f ∷ rest
 
-leaves : (ws : List (List ℕ)) (b : List ℕ) (o : Option ℕ) (rest : List (List ℕ)) (filled : List ℕ) → Taken ws b o rest filled → Leaves ws (frame_in o filled) rest
+leaves : (ws : List (List ℕ)) (b : List ℕ) (o : Option ℕ) (rest : List (List ℕ)) (filled : List ℕ) → Taken ws b o rest filled → Leaves ws (option_map (λ n. take n filled) o) rest
 leaves [] b (Some n) rest filled t = absurd t
 leaves [] b None rest filled t = (refl, t.0)
 leaves (f ∷ fs) b None rest filled t = absurd t
-leaves (f ∷ fs) b (Some n) rest filled t =
-    let e : take n filled ≡ f = ap (λ (k : ℕ). take k filled) t.0 ∙ ap (take (length f)) t.2 ∙ take_at f (drop (length f) b) (length f) refl in
-    ap (λ (l : List ℕ). l ∷ fs) (sym e) ∙ ap (λ (r : List (List ℕ)). take n filled ∷ r) (sym t.1)
+leaves (f ∷ fs) b (Some n) rest filled t = grind (arith, take_at f (drop (length f) b) (length f))
 
 pub record Collects (i i' : Means) (xs : List (Frame Message)) (frame : Option (List ℕ)) : Type 0 where
-  pub x : maybe.Option (Frame Message)
+  pub x : Option (Frame Message)
   pub us : List (Frame Message)
-  pub told : frame ≡ written_in x
+  pub told : frame ≡ option_map bytes_of x
   pub waits : i'.waiting ≡ map bytes_of us
   pub does : law.Collected (chan_of xs i) x (chan_of us i')
 
 collect_split : (i i' : Means) (xs us : List (Frame Message)) (bytes : List (List ℕ)) (frame : Option (List ℕ)) →
     map bytes_of us ≡ bytes → Leaves bytes frame i'.waiting → law.Faulted (chan_of xs i) (chan_of us i') → Collects i i' xs frame
-collect_split i i' xs [] bytes None e l t = record { x = maybe.none; us = []; told = refl; waits = l.1; does = law.nothing t }
-collect_split i i' xs (u ∷ us) bytes None e l t = let k = ap length (e ∙ l.0) in let z : ⊥ = omega arith in absurd z
-collect_split i i' xs [] bytes (Some f) e l t = let k = ap length (e ∙ l) in let z : ⊥ = omega arith in absurd z
+collect_split i i' xs [] bytes None e l t = record { x = None; us = []; told = refl; waits = l.1; does = law.nothing t }
+collect_split i i' xs (u ∷ us) bytes None e l t = grind arith
+collect_split i i' xs [] bytes (Some f) e l t = grind arith
 collect_split i i' xs (u ∷ us) bytes (Some f) e l t =
-    let k : bytes_of u ∷ map bytes_of us ≡ f ∷ i'.waiting = e ∙ l in
-    let h : f ≡ bytes_of u = cc in
-    let r : i'.waiting ≡ map bytes_of us = cc in
-    record { x = maybe.some u; us = us; told = ap Some h; waits = r; does = law.first t }
+    record { x = Some u; us = us; told = grind (arith, e, l); waits = grind (arith, e, l); does = law.first t }
 
 pub collect_lift : (i i' : Means) (frame : Option (List ℕ)) (xs : List (Frame Message)) → i.waiting ≡ map bytes_of xs → Gathers i frame i' → Collects i i' xs frame
 collect_lift i i' frame xs e g =
     let c = g.collects in
     let r = faults i i' c.acts xs i.waiting c.between e c.waits c.same_places c.spent in
     let l = leaves c.between g.buffer g.answer i'.waiting g.filled c.taken in
-    collect_split i i' xs r.us c.between frame r.waits (subst (λ (f : Option (List ℕ)). Leaves c.between f i'.waiting) (sym g.front) l) r.does
+    collect_split i i' xs r.us c.between frame r.waits (rw g.front l) r.does
 
 -- every frame has 1 to 64 bytes
 pub bytes_fit : (p : Packet) → Fit (written p)
@@ -113,4 +103,4 @@ post_lift f o o' ys (Err x) e l h = refused h.0
     refused (inl z) = absurd (z.1 (bytes_fit (packet_of f)))
     refused (inr z) =
         let k : length ys ≡ o.places = omega (arith, z.2, ap length e, length-map ys bytes_of) in
-        record { us = ys; waits = ap (λ (m : Means). m.waiting) h.1 ∙ e; does = subst (λ (m : Means). law.Posted f (chan_of ys o) (chan_of ys m)) (sym h.1) (law.full k) }
+        record { us = ys; waits = ap (λ (m : Means). m.waiting) h.1 ∙ e; does = rw h.1 (law.full k) }

@@ -1,6 +1,6 @@
 -- What holds over every run, for any book: what it lets fit, what booking does to it, what its calls draft.
-use Rattle.std.specs.Prelude.{◌≡◌, ℕ, suc, ◌+◌, ◌*◌, ◌≤◌, Bool, T, List, [], ◌∷◌, map, length, drop, Ok}
-use Rattle.refusal.specs.declared.Refusal.{Refusal}
+use Rattle.std.specs.Prelude.{◌≡◌, ℕ, suc, ◌+◌, ◌*◌, ◌≤◌, Bool, T, List, [], ◌∷◌, map, length, drop, slice_get, IfErr, Some, Ok}
+use Rattle.std.specs.List.{All}
 use Rattle.refusal.specs.Numbers.{number_of}
 use Rattle.message.specs.declared.Message.{Message}
 use Rattle.frame.specs.declared.Packet.{Packet}
@@ -8,9 +8,9 @@ use Rattle.frame.specs.declared.Packet.TheVariants.{Data, Acknowledgement}
 use Rattle.frame.specs.Packets.{Reads}
 use Rattle.carrier.specs.Means.{Means}
 use Rattle.law.specs.Link.{App}
-use Rattle.law.specs.Laws.{All, At, Joint, Prefix}
-use Rattle.link.specs.declared.turned.Collected.TheVariants as became
+use Rattle.law.specs.Laws.{Joint, Prefix}
 use Rattle.link.specs.declared.turned.Turned.{Turned}
+use Rattle.link.specs.Fits.{window}
 use Rattle.runs.specs.Turns.{Entry}
 use Rattle.runs.specs.Runs.{Reached, Round, Rounds, Side, Turn, World, faults_of, places_of}
 
@@ -40,8 +40,8 @@ messages es = map (λ (e : Entry). e.message) es
 
 -- the message that an end is to book next, if it is issued, fits
 pub record Fitting {C St : Type 0} (app : App Message C St) (w : World St) : Type 0 where
-  pub there_fits : (m : Message) → At (messages w.secured.issued) (length w.pledgor.booked) m → T (app.fits w.pledgor.plain.book m)
-  pub back_fits : (m : Message) → At (messages w.pledgor.issued) (length w.secured.booked) m → T (app.fits w.secured.plain.book m)
+  pub there_fits : (m : Message) → slice_get (messages w.secured.issued) (length w.pledgor.booked) ≡ Some m → T (app.fits w.pledgor.plain.book m)
+  pub back_fits : (m : Message) → slice_get (messages w.pledgor.issued) (length w.secured.booked) ≡ Some m → T (app.fits w.secured.plain.book m)
 
 -- what is to be booked next always fits
 abbrev pub AlwaysFitting : {C St : Type 0} → App Message C St → St → St → Type 0
@@ -54,7 +54,7 @@ SettlesAfter C St faults places rounds = (app : App Message C St) (s p : St) →
 
 -- how many rounds are enough
 abbrev pub rounds_enough : ℕ → ℕ → ℕ
-rounds_enough faults places = (faults + 8) * (2 * places + 1)
+rounds_enough faults places = (faults + window) * (2 * places + 1)
 
 abbrev pub RoundsLeaveNothingUnacknowledged : (C St : Type 0) → Type 0
 RoundsLeaveNothingUnacknowledged C St = (app : App Message C St) (s p : St) → AlwaysFitting app s p →
@@ -66,7 +66,7 @@ ARoundCanBeMade C St = (app : App Message C St) (s p : St) (w : World St) → Re
 
 -- a turn that refuses its frame does so by 5
 abbrev pub MisfitsAlone : Turned → Type 0
-MisfitsAlone r = (e : Refusal) → r.collected ≡ became.Refused e → number_of e ≡ 5
+MisfitsAlone r = IfErr r.collected (λ e. number_of e ≡ 5)
 
 -- in no reached world does a turn meet a fault of 1 to 4
 abbrev pub NoTurnMeetsABrokenFrame : (C St : Type 0) → Type 0
@@ -76,7 +76,7 @@ NoTurnMeetsABrokenFrame C St = (app : App Message C St) (s p : St) (w : World St
 
 -- a frame says what its sender may say: a message under the number that it was issued with, and the number that the sender expects or one before it
 abbrev pub Said : {St : Type 0} → Side St → Packet → Type 0
-Said s (Data n a m) = ((i : ℕ) × At s.issued i (record { number = n; message = m })) × (1 ≤ a) × (a ≤ s.plain.kept.expected)
+Said s (Data n a m) = ((i : ℕ) × (slice_get s.issued i ≡ Some (record { number = n; message = m }))) × (1 ≤ a) × (a ≤ s.plain.kept.expected)
 Said s (Acknowledgement a) = (1 ≤ a) × (a ≤ s.plain.kept.expected)
 
 -- bytes that read as such a frame

@@ -1,13 +1,12 @@
 -- Runs of two ends and the two carriers of bytes between them.
-use Rattle.std.specs.Prelude.{ℕ, suc, ◌+◌, ◌≤◌, max, List, [], ◌∷◌, ◌++◌}
-use Rattle.std.proofs.Math.Option as maybe
+use Rattle.std.specs.Prelude.{ℕ, ◌+◌, ◌≤◌, max, Some, None, Ok, Err, Option, List, [], ◌∷◌, ◌++◌}
 use Rattle.message.specs.declared.Message.{Message}
 use Rattle.carrier.specs.Means.{Means}
-use Rattle.law.specs.Link.{App}
-use Rattle.link.specs.declared.turned.Collected.{Collected}
-use Rattle.link.specs.declared.turned.Collected.TheVariants as became
+use Rattle.law.specs.Link.{App, Ends, Times}
+use Rattle.link.specs.declared.turned.Received.{Received}
+use Rattle.link.specs.declared.turned.Received.TheVariants as received
 use Rattle.link.specs.declared.turned.Turned.{Turned}
-use Rattle.runs.specs.Turns.{Entry, Plain, Turns, called, plainly}
+use Rattle.runs.specs.Turns.{Collected, Entry, Plain, Turns, called, plainly}
 
 -- an end, with what its calls issued and what its turns booked, in order of time, by the answers
 pub record Side (St : Type 0) : Type 0 where
@@ -19,18 +18,22 @@ abbrev pub fresh : {St : Type 0} → St → Side St
 fresh s = record { plain = plainly s; issued = []; booked = [] }
 
 -- what was issued, with what a call issues, if it is not refused
-abbrev pub sent : List Entry → maybe.Option Entry → List Entry
-sent is maybe.none = is
-sent is (maybe.some e) = is ++ (e ∷ [])
+abbrev pub sent : List Entry → Option Entry → List Entry
+sent is None = is
+sent is (Some e) = is ++ (e ∷ [])
+
+-- what was booked, with what is received
+abbrev pub entered : List Entry → Received → List Entry
+entered bs received.Acknowledgement = bs
+entered bs (received.Booked n m) = bs ++ (record { number = n; message = m } ∷ [])
+entered bs (received.Repeat n) = bs
+entered bs (received.Early n) = bs
 
 -- what was booked, with what a turn books
 abbrev pub noted : List Entry → Collected → List Entry
-noted bs became.Nothing = bs
-noted bs (became.Refused e) = bs
-noted bs became.Acknowledgement = bs
-noted bs (became.Booked n m) = bs ++ (record { number = n; message = m } ∷ [])
-noted bs (became.Repeat n) = bs
-noted bs (became.Early n) = bs
+noted bs (Err e) = bs
+noted bs (Ok None) = bs
+noted bs (Ok (Some r)) = entered bs r
 
 -- an end after a call, refused or not
 abbrev pub calling : {C St : Type 0} → App Message C St → C → Side St → Side St
@@ -41,12 +44,9 @@ pub data Turn {C St : Type 0} (app : App Message C St) : Side St → Means → M
   turn : {p q : Plain St} {is bs : List Entry} {i i' o o' : Means} {r : Turned} → Turns app p i o r q i' o' →
       Turn app (record { plain = p; issued = is; booked = bs }) i o r (record { plain = q; issued = is; booked = noted bs r.collected }) i' o'
 
--- two ends, and the carriers to the pledgor end and back
-pub record World (St : Type 0) : Type 0 where
-  pub secured : Side St
-  pub pledgor : Side St
-  pub forth : Means
-  pub back : Means
+-- two ends and the carriers between them
+abbrev pub World : Type 0 → Type 0
+World St = Ends (Side St) Means
 
 -- a step of a run: a call, refused or not, or a turn
 pub data Step {C St : Type 0} (app : App Message C St) : World St → World St → Type 0 where
@@ -74,9 +74,8 @@ pub data Round {C St : Type 0} (app : App Message C St) : World St → World St 
       Round app (record { secured = s; pledgor = p; forth = a; back = b }) (record { secured = s'; pledgor = p'; forth = a''; back = b'' })
 
 -- so many rounds
-pub data Rounds {C St : Type 0} (app : App Message C St) : ℕ → World St → World St → Type 0 where
-  done : {w : World St} → Rounds app 0 w w
-  again : {n : ℕ} {w v u : World St} → Round app w v → Rounds app n v u → Rounds app (suc n) w u
+abbrev pub Rounds : {C St : Type 0} → App Message C St → ℕ → World St → World St → Type 0
+Rounds app = Times (Round app)
 
 -- the faults left in both carriers
 abbrev pub faults_of : {St : Type 0} → World St → ℕ

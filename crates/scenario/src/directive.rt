@@ -1,18 +1,67 @@
 //! One line of a scenario.
+ghost use Rattle.std.specs.Prelude.{Some, codes};
+ghost use Rattle.scenario.specs.Lines.{SourceRead, source_word};
+
 use amounts::{Lot, SecuredLot};
-use annex::Row;
-use scripted::{Entry, Fault};
-use std::str::SplitWhitespace;
+use annex::schedule::standard_schedule;
+use annex::{Row, Terms};
+use scripted::Entry;
+use std::alloc::{AllocError, AllocFailed, Global};
+use std::error::Error;
+use std::fmt;
+use std::str::FromStr;
+use words::Words;
 
 /// Where a day's row is read from.
-#[derive(Clone, Copy)]
+#[derive(Clone, Copy, PartialEq, Eq, Debug)]
 pub enum Source {
     Sheet,
     Panel,
 }
 
+// By hand: a derived Display states no text.
+impl fmt::Display for Source {
+    ghost output = { λ source. Some (source_word source) };
+
+    fn fmt<W: fmt::Write>(&self, f: &mut fmt::Formatter<W>) -> fmt::Result {
+        f.write_str(match self {
+            Source::Sheet => "sheet",
+            Source::Panel => "panel",
+        })
+    }
+}
+
+/// A word that names no source.
+#[derive(Clone, Copy, PartialEq, Eq, Debug)]
+pub struct UnknownSource;
+
+// By hand: a derived Display states no text.
+impl fmt::Display for UnknownSource {
+    ghost output = { λ _. Some (codes "a source is sheet or panel") };
+
+    fn fmt<W: fmt::Write>(&self, f: &mut fmt::Formatter<W>) -> fmt::Result {
+        f.write_str("a source is sheet or panel")
+    }
+}
+
+impl Error for UnknownSource {}
+
+impl FromStr for Source {
+    type Err = UnknownSource;
+
+    ghost from_str_gives = { SourceRead };
+
+    fn from_str(word: &str) -> Result<Source, UnknownSource> {
+        match word {
+            "sheet" => Ok(Source::Sheet),
+            "panel" => Ok(Source::Panel),
+            _ => Err(UnknownSource),
+        }
+    }
+}
+
 /// One step of an agreement: a call of either end, or the booking of the oldest message under way.
-#[derive(Clone, Copy)]
+#[derive(Clone, Copy, PartialEq, Eq, Debug)]
 pub enum Step {
     /// The secured end weighs the sheet's row of this day, and notifies what it comes to.
     Notify { day: u32 },
@@ -31,91 +80,127 @@ pub enum Step {
     Show,
 }
 
+/// The line of a scenario that says it.
+impl fmt::Display for Step {
+    fn fmt<W: fmt::Write>(&self, f: &mut fmt::Formatter<W>) -> fmt::Result {
+        match self {
+            Step::Notify { day } => write!(f, "notify {day}"),
+            Step::Resolve { source } => write!(f, "resolve {source}"),
+            Step::Confirm => f.write_str("confirm"),
+            Step::Reply { lot } => write!(f, "reply {lot}"),
+            Step::Answer => f.write_str("answer"),
+            Step::Deliver { lot } => write!(f, "deliver {lot}"),
+            Step::Substitute { new, old } => write!(f, "substitute {new} {old}"),
+            Step::Ask { lot } => write!(f, "ask {lot}"),
+            Step::Release => f.write_str("release"),
+            Step::BookAtSecured => f.write_str("book secured"),
+            Step::BookAtPledgor => f.write_str("book pledgor"),
+            Step::Show => f.write_str("show"),
+        }
+    }
+}
+
+/// The terms, without the percentages of the classes.
+// Terms of its own: the percentages stand in another line, and none are assumed until it is read.
+#[derive(Clone, Copy, PartialEq, Eq, Debug)]
+pub struct TermsLine {
+    pub threshold: u64,
+    pub pledgor_minimum: u64,
+    pub secured_minimum: u64,
+    pub pledgor_independent: u64,
+    pub secured_independent: u64,
+}
+
+impl TermsLine {
+    /// The terms with these percentages.
+    pub(crate) fn under(self, percentages: [u32; 8]) -> Terms {
+        let TermsLine {
+            threshold,
+            pledgor_minimum,
+            secured_minimum,
+            pledgor_independent,
+            secured_independent,
+        } = self;
+        Terms {
+            threshold,
+            pledgor_minimum,
+            secured_minimum,
+            pledgor_independent,
+            secured_independent,
+            percentages,
+        }
+    }
+}
+
+/// A panel: its day and its quotes.
+#[derive(Drop)]
+pub struct PanelLine {
+    pub day: u32,
+    pub quotes: Vec<i64>,
+}
+
+/// A day to be valued, and where its row is read from.
+#[derive(Clone, Copy, PartialEq, Eq, Debug)]
+pub struct ValueLine {
+    pub day: u32,
+    pub source: Source,
+}
+
 /// What a line says.
-#[derive(Clone, Copy)]
+#[derive(Drop)]
 pub enum Directive {
-    /// Nothing, or a comment.
+    /// Nothing, or a comment: a line like the others, and matched with them.
     Blank,
-    Terms {
-        threshold: u64,
-        pledgor_minimum: u64,
-        secured_minimum: u64,
-        pledgor_independent: u64,
-        secured_independent: u64,
-    },
-    StandardSchedule,
-    Schedule {
-        percentages: [u32; 8],
-    },
-    Lot {
-        lot: SecuredLot,
-    },
-    Row {
-        row: Row,
-    },
-    /// The quotes follow it in the line.
-    Panel {
-        day: u32,
-    },
-    Value {
-        day: u32,
-        source: Source,
-    },
+    Terms(TermsLine),
+    /// The percentage of each class.
+    Schedule([u32; 8]),
+    Lot(SecuredLot),
+    Row(Row),
+    Panel(PanelLine),
+    Value(ValueLine),
     /// The carrier that the days' frames go over, by its places.
-    Carrier {
-        places: usize,
-    },
+    Carrier { places: usize },
     /// One more lot of the pledgor.
-    OwnLot {
-        lot: Lot,
-    },
+    OwnLot(Lot),
     /// One more row of the pledgor's own sheet.
-    OwnRow {
-        row: Row,
-    },
-    Step {
-        step: Step,
-    },
+    OwnRow(Row),
+    Step(Step),
     /// One more entry of the carrier's script.
-    Fault {
-        entry: Entry,
-    },
+    Fault(Entry),
 }
 
-fn amount(words: &mut SplitWhitespace<'_>) -> Option<u64> {
-    words.next()?.parse::<u64>().ok()
+/// Why a line is not taken.
+#[derive(Clone, Copy)]
+pub(crate) enum LineError {
+    /// It is not what was expected.
+    Expected(&'static str),
+    /// There is not enough memory.
+    Memory,
 }
 
-fn day(words: &mut SplitWhitespace<'_>) -> Option<u32> {
-    words.next()?.parse::<u32>().ok()
-}
-
-fn word(words: &mut SplitWhitespace<'_>, expected: &str) -> Option<()> {
-    if words.next()? == expected {
-        Some(())
-    } else {
-        None
+// From by hand: a derived error has words, and these errors are told in the words of Unreadable.
+impl From<AllocError> for LineError {
+    fn from(_: AllocError) -> LineError {
+        LineError::Memory
     }
 }
 
-fn nothing_more(words: &mut SplitWhitespace<'_>) -> Option<()> {
-    match words.next() {
-        Some(_) => None,
-        None => Some(()),
+impl<T: Drop> From<AllocFailed<T>> for LineError {
+    fn from(_: AllocFailed<T>) -> LineError {
+        LineError::Memory
     }
 }
 
-fn terms(words: &mut SplitWhitespace<'_>) -> Option<Directive> {
-    word(words, "threshold")?;
-    let threshold = amount(words)?;
-    word(words, "minimum")?;
-    let pledgor_minimum = amount(words)?;
-    let secured_minimum = amount(words)?;
-    word(words, "independent")?;
-    let pledgor_independent = amount(words)?;
-    let secured_independent = amount(words)?;
-    nothing_more(words)?;
-    Some(Directive::Terms {
+fn terms(words: &mut Words<'_>) -> Option<TermsLine> {
+    words.keyword("threshold")?;
+    let threshold = words.number()?;
+    words.keyword("minimum")?;
+    let pledgor_minimum = words.number()?;
+    let secured_minimum = words.number()?;
+    words.keyword("independent")?;
+    let pledgor_independent = words.number()?;
+    let secured_independent = words.number()?;
+    Some(TermsLine {
         threshold,
         pledgor_minimum,
         secured_minimum,
@@ -124,66 +209,38 @@ fn terms(words: &mut SplitWhitespace<'_>) -> Option<Directive> {
     })
 }
 
-fn percentages(first: &str, words: &mut SplitWhitespace<'_>) -> Option<Directive> {
-    let mut percentages = [0; 8];
-    percentages[0] = first.parse::<u32>().ok()?;
-    for class in 1..8usize {
-        percentages[class] = words.next()?.parse::<u32>().ok()?;
-    }
-    nothing_more(words)?;
-    Some(Directive::Schedule { percentages })
-}
-
-fn schedule(words: &mut SplitWhitespace<'_>) -> Option<Directive> {
+fn schedule(words: &mut Words<'_>) -> Option<[u32; 8]> {
     match words.next()? {
-        "standard" => {
-            nothing_more(words)?;
-            Some(Directive::StandardSchedule)
+        "standard" => Some(standard_schedule()),
+        first => {
+            let mut percentages = [first.parse::<u32>().ok()?; 8];
+            for percentage in percentages.iter_mut().skip(1) {
+                *percentage = words.number()?;
+            }
+            Some(percentages)
         }
-        first => percentages(first, words),
     }
 }
 
-fn lot(words: &mut SplitWhitespace<'_>) -> Option<Directive> {
-    word(words, "class")?;
-    let class = words.next()?.parse::<u8>().ok()?;
-    word(words, "face")?;
-    let face = amount(words)?;
-    let lot = Lot { class, face };
-    let lot = match words.next()? {
-        "held" => SecuredLot::Held(lot),
-        "owed-back" => SecuredLot::OwedBack(lot),
-        "decline-owed" => SecuredLot::DeclineOwed(lot),
-        _ => return None,
-    };
-    nothing_more(words)?;
-    Some(Directive::Lot { lot })
+fn lot(words: &mut Words<'_>) -> Option<Lot> {
+    words.keyword("class")?;
+    let class = words.number()?;
+    words.keyword("face")?;
+    let face = words.number()?;
+    Some(Lot { class, face })
 }
 
-fn exposure(words: &mut SplitWhitespace<'_>) -> Option<Option<i64>> {
-    match words.next()? {
-        "-" => Some(None),
-        number => Some(Some(number.parse::<i64>().ok()?)),
-    }
+fn secured_lot(words: &mut Words<'_>) -> Option<SecuredLot> {
+    let lot = lot(words)?;
+    SecuredLot::in_state(words.next()?, lot)
 }
 
-fn price(words: &mut SplitWhitespace<'_>) -> Option<Option<u32>> {
-    match words.next()? {
-        "-" => Some(None),
-        number => Some(Some(number.parse::<u32>().ok()?)),
-    }
-}
-
-fn row(words: &mut SplitWhitespace<'_>) -> Option<Row> {
-    let day = day(words)?;
-    word(words, "exposure")?;
-    let exposure = exposure(words)?;
-    word(words, "prices")?;
-    let mut prices = [None; 8];
-    for class in 0..8usize {
-        prices[class] = price(words)?;
-    }
-    nothing_more(words)?;
+fn row(words: &mut Words<'_>) -> Option<Row> {
+    let day = words.number()?;
+    words.keyword("exposure")?;
+    let exposure = words.optional()?;
+    words.keyword("prices")?;
+    let prices = words.prices()?;
     Some(Row {
         day,
         exposure,
@@ -191,172 +248,161 @@ fn row(words: &mut SplitWhitespace<'_>) -> Option<Row> {
     })
 }
 
-fn sheet_row(words: &mut SplitWhitespace<'_>) -> Option<Directive> {
-    let row = row(words)?;
-    Some(Directive::Row { row })
+fn panel_day(words: &mut Words<'_>) -> Option<u32> {
+    let day = words.number()?;
+    words.keyword("quotes")?;
+    Some(day)
 }
 
-fn own_row(words: &mut SplitWhitespace<'_>) -> Option<Directive> {
-    let row = row(words)?;
-    Some(Directive::OwnRow { row })
+// The quotes of a panel are the words that are left of its line.
+fn panel(heap: Global, words: &mut Words<'_>) -> Result<PanelLine, LineError> {
+    let day = panel_day(words).ok_or(LineError::Expected("'panel DAY quotes' and the quotes"))?;
+    let quotes: Vec<i64> = words
+        .map(|word| {
+            word.parse::<i64>().map_err(|_| LineError::Expected(
+                "'panel DAY quotes' and the quotes, each a whole number",
+            ))
+        })
+        .try_collect(heap)?;
+    Ok(PanelLine { day, quotes })
 }
 
-fn own_lot(words: &mut SplitWhitespace<'_>) -> Option<Directive> {
-    word(words, "class")?;
-    let class = words.next()?.parse::<u8>().ok()?;
-    word(words, "face")?;
-    let face = amount(words)?;
-    nothing_more(words)?;
-    let lot = Lot { class, face };
-    Some(Directive::OwnLot { lot })
+fn value(words: &mut Words<'_>) -> Option<ValueLine> {
+    let day = words.number()?;
+    let source = words.next()?.parse().ok()?;
+    Some(ValueLine { day, source })
 }
 
-fn lot_number(words: &mut SplitWhitespace<'_>) -> Option<u8> {
-    words.next()?.parse::<u8>().ok()
+fn places(words: &mut Words<'_>) -> Option<usize> {
+    words.keyword("places")?;
+    words.number()
 }
 
-fn step_of(kind: &str, words: &mut SplitWhitespace<'_>) -> Option<Step> {
-    let step = match kind {
-        "notify" => Step::Notify { day: day(words)? },
-        "reply" => Step::Reply {
-            lot: lot_number(words)?,
-        },
-        "deliver" => Step::Deliver {
-            lot: lot_number(words)?,
-        },
-        "ask" => Step::Ask {
-            lot: lot_number(words)?,
-        },
-        "confirm" => Step::Confirm,
-        "answer" => Step::Answer,
-        "release" => Step::Release,
-        "show" => Step::Show,
-        _ => return None,
-    };
-    nothing_more(words)?;
-    Some(step)
+fn fault(words: &mut Words<'_>) -> Option<Entry> {
+    words.keyword("call")?;
+    let count = words.number()?;
+    let fault = words.next()?.parse().ok()?;
+    let position = words.number()?;
+    Some(Entry {
+        count,
+        fault,
+        position,
+    })
 }
 
-fn two_word_step(kind: &str, words: &mut SplitWhitespace<'_>) -> Option<Step> {
-    let step = match kind {
-        "substitute" => {
-            let new = lot_number(words)?;
-            let old = lot_number(words)?;
-            Step::Substitute { new, old }
-        }
-        "resolve" => Step::Resolve {
-            source: source_of(words)?,
-        },
-        _ => match words.next()? {
-            "secured" => Step::BookAtSecured,
-            "pledgor" => Step::BookAtPledgor,
-            _ => return None,
-        },
-    };
-    nothing_more(words)?;
-    Some(step)
+fn resolve(words: &mut Words<'_>) -> Option<Step> {
+    let source = words.next()?.parse().ok()?;
+    Some(Step::Resolve { source })
 }
 
-fn step_line(kind: &str, words: &mut SplitWhitespace<'_>) -> Option<Directive> {
-    let step = match kind {
-        "substitute" | "resolve" | "book" => two_word_step(kind, words)?,
-        _ => step_of(kind, words)?,
-    };
-    Some(Directive::Step { step })
+fn substitute(words: &mut Words<'_>) -> Option<Step> {
+    let new = words.number()?;
+    let old = words.number()?;
+    Some(Step::Substitute { new, old })
 }
 
-fn source_of(words: &mut SplitWhitespace<'_>) -> Option<Source> {
+fn book(words: &mut Words<'_>) -> Option<Step> {
     match words.next()? {
-        "sheet" => Some(Source::Sheet),
-        "panel" => Some(Source::Panel),
+        "secured" => Some(Step::BookAtSecured),
+        "pledgor" => Some(Step::BookAtPledgor),
         _ => None,
     }
 }
 
-fn panel(words: &mut SplitWhitespace<'_>) -> Option<Directive> {
-    let day = day(words)?;
-    word(words, "quotes")?;
-    Some(Directive::Panel { day })
-}
+const LOT_CALL: &str = "'reply LOT', 'deliver LOT' or 'ask LOT'";
 
-fn value(words: &mut SplitWhitespace<'_>) -> Option<Directive> {
-    let day = day(words)?;
-    let source = source_of(words)?;
-    nothing_more(words)?;
-    Some(Directive::Value { day, source })
-}
-
-fn carrier(words: &mut SplitWhitespace<'_>) -> Option<Directive> {
-    word(words, "places")?;
-    let places = words.next()?.parse::<usize>().ok()?;
-    nothing_more(words)?;
-    Some(Directive::Carrier { places })
-}
-
-fn fault(words: &mut SplitWhitespace<'_>) -> Option<Directive> {
-    word(words, "call")?;
-    let count = words.next()?.parse::<u32>().ok()?;
-    let fault = match words.next()? {
-        "lose" => Fault::Lose,
-        "repeat" => Fault::Repeat,
-        "move" => Fault::Move,
-        _ => return None,
-    };
-    let position = words.next()?.parse::<usize>().ok()?;
-    nothing_more(words)?;
-    let entry = Entry {
-        count,
-        fault,
-        position,
-    };
-    Some(Directive::Fault { entry })
-}
-
-// A line of an agreement's steps, or what was expected in its place.
-fn agreement(kind: &str, words: &mut SplitWhitespace<'_>) -> Result<Directive, &'static str> {
-    match kind {
-        "own-lot" => own_lot(words).ok_or("'own-lot class CLASS face AMOUNT'"),
-        "own-row" => own_row(words).ok_or(
-            "'own-row DAY exposure NUMBER prices' and eight prices, '-' for none",
-        ),
-        "notify" => step_line(kind, words).ok_or("'notify DAY'"),
-        "resolve" => step_line(kind, words).ok_or("'resolve sheet' or 'resolve panel'"),
-        "reply" | "deliver" | "ask" => step_line(kind, words).ok_or(
-            "'reply LOT', 'deliver LOT' or 'ask LOT'",
-        ),
-        "substitute" => step_line(kind, words).ok_or("'substitute NEW-LOT OLD-LOT'"),
-        "book" => step_line(kind, words).ok_or("'book secured' or 'book pledgor'"),
-        "confirm" | "answer" | "release" | "show" => step_line(kind, words).ok_or(
-            "'confirm', 'answer', 'release' or 'show' alone",
-        ),
-        _ => Err("a line that docs/SCENARIO.md has"),
-    }
-}
+const ALONE: &str = "'confirm', 'answer', 'release' or 'show' alone";
 
 impl Directive {
-    /// What the line says, or what was expected in its place. The quotes of a panel are left in `words`.
-    pub(crate) fn parse(words: &mut SplitWhitespace<'_>) -> Result<Directive, &'static str> {
-        match words.next() {
-            None => Ok(Directive::Blank),
-            Some("terms") => terms(words).ok_or(
+    /// What the line says, or what was expected in its place.
+    pub(crate) fn parse(heap: Global, line: &str) -> Result<Directive, LineError> {
+        if line.starts_with('#') {
+            return Ok(Directive::Blank);
+        }
+        let words = &mut Words::new(line);
+        let Some(kind) = words.next() else {
+            return Ok(Directive::Blank);
+        };
+        let (directive, expected) = match kind {
+            "terms" => (
+                terms(words).map(Directive::Terms),
                 "'terms threshold AMOUNT minimum AMOUNT AMOUNT independent AMOUNT AMOUNT'",
             ),
-            Some("schedule") => schedule(words).ok_or(
+            "schedule" => (
+                schedule(words).map(Directive::Schedule),
                 "'schedule standard' or 'schedule' and eight percentages",
             ),
-            Some("lot") => lot(words).ok_or(
+            "lot" => (
+                secured_lot(words).map(Directive::Lot),
                 "'lot class CLASS face AMOUNT' and 'held', 'owed-back' or 'decline-owed'",
             ),
-            Some("row") => sheet_row(words).ok_or(
+            "row" => (
+                row(words).map(Directive::Row),
                 "'row DAY exposure NUMBER prices' and eight prices, '-' for none",
             ),
-            Some("panel") => panel(words).ok_or("'panel DAY quotes' and the quotes"),
-            Some("value") => value(words).ok_or("'value DAY sheet' or 'value DAY panel'"),
-            Some("carrier") => carrier(words).ok_or("'carrier places NUMBER'"),
-            Some("fault") => fault(words).ok_or(
+            "panel" => return panel(heap, words).map(Directive::Panel),
+            "value" => (
+                value(words).map(Directive::Value),
+                "'value DAY sheet' or 'value DAY panel'",
+            ),
+            "carrier" => (
+                places(words).map(|places| Directive::Carrier { places }),
+                "'carrier places NUMBER'",
+            ),
+            "fault" => (
+                fault(words).map(Directive::Fault),
                 "'fault call NUMBER' and 'lose', 'repeat' or 'move' and a position",
             ),
-            Some(kind) => agreement(kind, words),
-        }
+            "own-lot" => (
+                lot(words).map(Directive::OwnLot),
+                "'own-lot class CLASS face AMOUNT'",
+            ),
+            "own-row" => (
+                row(words).map(Directive::OwnRow),
+                "'own-row DAY exposure NUMBER prices' and eight prices, '-' for none",
+            ),
+            "notify" => (
+                words
+                    .number()
+                    .map(|day| Directive::Step(Step::Notify { day })),
+                "'notify DAY'",
+            ),
+            "resolve" => (
+                resolve(words).map(Directive::Step),
+                "'resolve sheet' or 'resolve panel'",
+            ),
+            "reply" => (
+                words
+                    .number()
+                    .map(|lot| Directive::Step(Step::Reply { lot })),
+                LOT_CALL,
+            ),
+            "deliver" => (
+                words
+                    .number()
+                    .map(|lot| Directive::Step(Step::Deliver { lot })),
+                LOT_CALL,
+            ),
+            "ask" => (
+                words.number().map(|lot| Directive::Step(Step::Ask { lot })),
+                LOT_CALL,
+            ),
+            "substitute" => (
+                substitute(words).map(Directive::Step),
+                "'substitute NEW-LOT OLD-LOT'",
+            ),
+            "book" => (
+                book(words).map(Directive::Step),
+                "'book secured' or 'book pledgor'",
+            ),
+            "confirm" => (Some(Directive::Step(Step::Confirm)), ALONE),
+            "answer" => (Some(Directive::Step(Step::Answer)), ALONE),
+            "release" => (Some(Directive::Step(Step::Release)), ALONE),
+            "show" => (Some(Directive::Step(Step::Show)), ALONE),
+            _ => return Err(LineError::Expected("a line that docs/SCENARIO.md has")),
+        };
+        let directive = directive.ok_or(LineError::Expected(expected))?;
+        words.end().ok_or(LineError::Expected(expected))?;
+        Ok(directive)
     }
 }

@@ -5,5 +5,5 @@
 pub mod directive;
 pub mod reading;
 
-pub use directive::{Directive, Source, Step};
-pub use reading::{PanelLine, Scenario, Unreadable, ValueLine, read};
+pub use directive::{Directive, PanelLine, Source, Step, TermsLine, UnknownSource, ValueLine};
+pub use reading::{CarrierLines, Lines, Scenario, Unreadable, read};

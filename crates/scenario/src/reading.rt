@@ -1,39 +1,30 @@
 //! A whole scenario: every line is read before anything is done.
-use crate::directive::{Directive, Source, Step};
+ghost use Rattle.std.specs.Prelude.{◌≡◌, option_map};
+ghost use Rattle.scenario.specs.Lines.{first_panel, quotes_of};
+
+use crate::directive::{Directive, LineError, PanelLine, Step, TermsLine, ValueLine};
 use amounts::{Lot, SecuredLot};
-use annex::schedule::standard_schedule;
 use annex::{Row, Terms};
 use scripted::Entry;
-use std::alloc::{AllocError, AllocFailed, Global};
-use std::str::SplitWhitespace;
+use std::alloc::Global;
+use thiserror::Error;
 
-/// A panel: its day, and which of the scenario's quotes are its own.
-#[derive(Clone, Copy)]
-pub struct PanelLine {
-    pub day: u32,
-    pub from: usize,
-    pub to: usize,
-}
-
-/// A day to be valued, and where its row is read from.
-#[derive(Clone, Copy)]
-pub struct ValueLine {
-    pub day: u32,
-    pub source: Source,
-}
-
-/// What a scenario says, in the order of its lines.
+/// The carrier that the days' frames go over: its places, and its script.
 #[derive(Drop)]
-pub struct Scenario {
-    pub terms: Terms,
+pub struct CarrierLines {
+    pub places: usize,
+    pub script: Vec<Entry>,
+}
+
+/// What the lines of a scenario say beside its terms, in their order.
+#[derive(Drop)]
+pub struct Lines {
     pub lots: Vec<SecuredLot>,
     pub rows: Vec<Row>,
-    pub quotes: Vec<i64>,
     pub panels: Vec<PanelLine>,
     pub values: Vec<ValueLine>,
-    /// The places of the carrier that the days' frames go over, if there is one.
-    pub places: Option<usize>,
-    pub script: Vec<Entry>,
+    /// The carrier, if there is one.
+    pub carrier: Option<CarrierLines>,
     /// The pledgor's lots, and its own sheet.
     pub own_lots: Vec<Lot>,
     pub own_rows: Vec<Row>,
@@ -41,49 +32,93 @@ pub struct Scenario {
     pub steps: Vec<Step>,
 }
 
+impl Lines {
+    fn new(heap: Global) -> Lines {
+        Lines {
+            lots: Vec::new(heap),
+            rows: Vec::new(heap),
+            panels: Vec::new(heap),
+            values: Vec::new(heap),
+            carrier: None,
+            own_lots: Vec::new(heap),
+            own_rows: Vec::new(heap),
+            steps: Vec::new(heap),
+        }
+    }
+
+    // The first panel of a day.
+    fn panel(&self, day: u32) -> Option<&PanelLine>
+        ensures { option_map (λ panel. panel.now) result ≡ first_panel day self.now.panels.items }
+    {
+        self.panels.iter().find(|panel| panel.day == day)
+    }
+
+    /// The quotes of the first panel of a day; a day without a panel has none.
+    pub fn quotes_of(&self, day: u32) -> &[i64]
+        ensures { result.now ≡ quotes_of (first_panel day self.now.panels.items) }
+    {
+        match self.panel(day) {
+            Some(panel) => panel.quotes.as_slice(),
+            None => &[],
+        }
+    }
+}
+
+/// What a scenario says.
+#[derive(Drop)]
+pub struct Scenario {
+    pub terms: Terms,
+    pub lines: Lines,
+}
+
 /// Why a text is no scenario.
-#[derive(Clone, Copy)]
+#[derive(Clone, Copy, Debug, Error)]
 pub enum Unreadable {
     /// The line of this number, from 1, is not what was expected.
+    #[error("line {number}: expected {expected}")]
     Line {
         number: usize,
         expected: &'static str,
     },
     /// The text ends without a line that it has to have.
+    #[error("at the end: expected {expected}")]
     Missing {
         expected: &'static str,
     },
     /// There is not enough memory.
+    #[error("not enough memory")]
     Memory,
 }
 
-impl From<AllocError> for Unreadable {
-    fn from(_: AllocError) -> Unreadable {
-        Unreadable::Memory
+impl Unreadable {
+    // What is wrong with the line of this number.
+    fn at(number: usize, error: LineError) -> Unreadable {
+        match error {
+            LineError::Expected(expected) => Unreadable::Line { number, expected },
+            LineError::Memory => Unreadable::Memory,
+        }
     }
 }
 
-impl<T: Drop> From<AllocFailed<T>> for Unreadable {
-    fn from(_: AllocFailed<T>) -> Unreadable {
-        Unreadable::Memory
+// Sets what only one line may set.
+fn set_once<T: Drop>(
+    slot: &mut Option<T>,
+    value: T,
+    expected: &'static str,
+) -> Result<(), LineError> {
+    if slot.is_some() {
+        return Err(LineError::Expected(expected));
     }
+    *slot = Some(value);
+    Ok(())
 }
 
 // What has been read so far.
 #[derive(Drop)]
 struct Draft {
-    terms: Option<Terms>,
+    terms: Option<TermsLine>,
     percentages: Option<[u32; 8]>,
-    lots: Vec<SecuredLot>,
-    rows: Vec<Row>,
-    quotes: Vec<i64>,
-    panels: Vec<PanelLine>,
-    values: Vec<ValueLine>,
-    places: Option<usize>,
-    script: Vec<Entry>,
-    own_lots: Vec<Lot>,
-    own_rows: Vec<Row>,
-    steps: Vec<Step>,
+    lines: Lines,
 }
 
 impl Draft {
@@ -91,188 +126,66 @@ impl Draft {
         Draft {
             terms: None,
             percentages: None,
-            lots: Vec::new(heap),
-            rows: Vec::new(heap),
-            quotes: Vec::new(heap),
-            panels: Vec::new(heap),
-            values: Vec::new(heap),
-            places: None,
-            script: Vec::new(heap),
-            own_lots: Vec::new(heap),
-            own_rows: Vec::new(heap),
-            steps: Vec::new(heap),
+            lines: Lines::new(heap),
         }
-    }
-
-    // The quotes of a panel are the words that are left of its line.
-    fn add_panel(
-        &mut self,
-        day: u32,
-        words: &mut SplitWhitespace<'_>,
-        number: usize,
-    ) -> Result<(), Unreadable> {
-        let from = self.quotes.len();
-        for word in words {
-            match word.parse::<i64>() {
-                Ok(quote) => self.quotes.push(quote)?,
-                Err(_) => {
-                    return Err(Unreadable::Line {
-                        number,
-                        expected: "'panel DAY quotes' and the quotes, each a whole number",
-                    });
-                }
-            }
-        }
-        let to = self.quotes.len();
-        self.panels.push(PanelLine { day, from, to })?;
-        Ok(())
-    }
-
-    fn set_terms(&mut self, terms: Terms, number: usize) -> Result<(), Unreadable> {
-        if self.terms.is_some() {
-            return Err(Unreadable::Line {
-                number,
-                expected: "one 'terms' line",
-            });
-        }
-        self.terms = Some(terms);
-        Ok(())
-    }
-
-    fn set_percentages(&mut self, percentages: [u32; 8], number: usize) -> Result<(), Unreadable> {
-        if self.percentages.is_some() {
-            return Err(Unreadable::Line {
-                number,
-                expected: "one 'schedule' line",
-            });
-        }
-        self.percentages = Some(percentages);
-        Ok(())
-    }
-
-    fn set_places(&mut self, places: usize, number: usize) -> Result<(), Unreadable> {
-        if self.places.is_some() {
-            return Err(Unreadable::Line {
-                number,
-                expected: "at most one 'carrier' line",
-            });
-        }
-        self.places = Some(places);
-        Ok(())
     }
 
     // An entry of the script of a carrier that stands above it.
-    fn add_fault(&mut self, entry: Entry, number: usize) -> Result<(), Unreadable> {
-        if self.places.is_none() {
-            return Err(Unreadable::Line {
-                number,
-                expected: "a 'carrier' line before the first 'fault'",
-            });
-        }
-        self.script.push(entry)?;
+    fn add_fault(&mut self, entry: Entry) -> Result<(), LineError> {
+        let carrier = self.lines.carrier.as_mut().ok_or(LineError::Expected(
+            "a 'carrier' line before the first 'fault'",
+        ))?;
+        carrier.script.push(entry)?;
         Ok(())
     }
 
-    fn add(&mut self, line: &str, number: usize) -> Result<(), Unreadable> {
-        if line.starts_with('#') {
-            return Ok(());
-        }
-        let mut words = line.split_whitespace();
-        let directive = match Directive::parse(&mut words) {
-            Ok(directive) => directive,
-            Err(expected) => return Err(Unreadable::Line { number, expected }),
-        };
-        match directive {
-            Directive::Blank => Ok(()),
-            Directive::Terms {
-                threshold,
-                pledgor_minimum,
-                secured_minimum,
-                pledgor_independent,
-                secured_independent,
-            } => {
-                let terms = Terms {
-                    threshold,
-                    pledgor_minimum,
-                    secured_minimum,
-                    pledgor_independent,
-                    secured_independent,
-                    percentages: [0; 8],
+    fn add(&mut self, heap: Global, line: &str) -> Result<(), LineError> {
+        match Directive::parse(heap, line)? {
+            Directive::Blank => {}
+            Directive::Terms(terms) => set_once(&mut self.terms, terms, "one 'terms' line")?,
+            Directive::Schedule(percentages) => set_once(
+                &mut self.percentages,
+                percentages,
+                "one 'schedule' line",
+            )?,
+            Directive::Lot(lot) => self.lines.lots.push(lot)?,
+            Directive::Row(row) => self.lines.rows.push(row)?,
+            Directive::Panel(panel) => self.lines.panels.push(panel)?,
+            Directive::Value(value) => self.lines.values.push(value)?,
+            Directive::Carrier { places } => {
+                let carrier = CarrierLines {
+                    places,
+                    script: Vec::new(heap),
                 };
-                self.set_terms(terms, number)
+                set_once(
+                    &mut self.lines.carrier,
+                    carrier,
+                    "at most one 'carrier' line",
+                )?
             }
-            Directive::StandardSchedule => self.set_percentages(standard_schedule(), number),
-            Directive::Schedule { percentages } => self.set_percentages(percentages, number),
-            Directive::Lot { lot } => {
-                self.lots.push(lot)?;
-                Ok(())
-            }
-            Directive::Row { row } => {
-                self.rows.push(row)?;
-                Ok(())
-            }
-            Directive::Panel { day } => self.add_panel(day, &mut words, number),
-            Directive::Value { day, source } => {
-                self.values.push(ValueLine { day, source })?;
-                Ok(())
-            }
-            Directive::Carrier { places } => self.set_places(places, number),
-            Directive::Fault { entry } => self.add_fault(entry, number),
-            Directive::OwnLot { lot } => {
-                self.own_lots.push(lot)?;
-                Ok(())
-            }
-            Directive::OwnRow { row } => {
-                self.own_rows.push(row)?;
-                Ok(())
-            }
-            Directive::Step { step } => {
-                self.steps.push(step)?;
-                Ok(())
-            }
+            Directive::Fault(entry) => self.add_fault(entry)?,
+            Directive::OwnLot(lot) => self.lines.own_lots.push(lot)?,
+            Directive::OwnRow(row) => self.lines.own_rows.push(row)?,
+            Directive::Step(step) => self.lines.steps.push(step)?,
         }
+        Ok(())
     }
 
     fn finish(self) -> Result<Scenario, Unreadable> {
         let Draft {
             terms,
             percentages,
-            lots,
-            rows,
-            quotes,
-            panels,
-            values,
-            places,
-            script,
-            own_lots,
-            own_rows,
-            steps,
+            lines,
         } = self;
-        let Some(terms) = terms else {
-            return Err(Unreadable::Missing {
-                expected: "a 'terms' line",
-            });
-        };
-        let Some(percentages) = percentages else {
-            return Err(Unreadable::Missing {
-                expected: "a 'schedule' line",
-            });
-        };
+        let terms = terms.ok_or(Unreadable::Missing {
+            expected: "a 'terms' line",
+        })?;
+        let percentages = percentages.ok_or(Unreadable::Missing {
+            expected: "a 'schedule' line",
+        })?;
         Ok(Scenario {
-            terms: Terms {
-                percentages,
-                ..terms
-            },
-            lots,
-            rows,
-            quotes,
-            panels,
-            values,
-            places,
-            script,
-            own_lots,
-            own_rows,
-            steps,
+            terms: terms.under(percentages),
+            lines,
         })
     }
 }
@@ -280,10 +193,10 @@ impl Draft {
 /// The scenario that a text is, or the first line that is not what was expected.
 pub fn read(heap: Global, text: &str) -> Result<Scenario, Unreadable> {
     let mut draft = Draft::new(heap);
-    let mut number = 0usize;
-    for line in text.lines() {
-        number = number.saturating_add(1);
-        draft.add(line, number)?;
+    for (number, line) in (1..).zip(text.lines()) {
+        draft
+            .add(heap, line)
+            .map_err(|error| Unreadable::at(number, error))?;
     }
     draft.finish()
 }
@@ -308,20 +221,19 @@ mod tests {
             scenario.terms.percentages,
             [10_000, 9_950, 9_850, 9_700, 9_500, 9_250, 8_950, 8_600]
         );
-        assert_eq!(rt; scenario.lots.len(), 1);
-        assert_eq!(rt; scenario.quotes.as_slice(), [-1i64, -2, 8].as_slice());
-        assert_eq!(rt; scenario.panels.len(), 2);
-        assert_eq!(rt; scenario.values.len(), 1);
+        assert_eq!(rt; scenario.lines.lots.len(), 1);
+        assert_eq!(rt; scenario.lines.panels.len(), 2);
+        assert_eq!(rt; scenario.lines.quotes_of(3), [-1i64, -2].as_slice());
+        assert_eq!(rt; scenario.lines.quotes_of(4), [8i64].as_slice());
+        assert_eq!(rt; scenario.lines.values.len(), 1);
         Ok(())
     }
 
-    fn refused_at(rt: &HostRuntime, line: &str) -> Result<usize, Fail> {
+    fn refused_at(rt: &HostRuntime, line: &str) -> Result<Option<usize>, Fail> {
         let text = format!(in rt.alloc(); "{TERMS}{line}\n")?;
         match read(rt.alloc(), text.as_str()) {
-            Err(Unreadable::Line { number, .. }) => Ok(number),
-            Err(Unreadable::Missing { .. }) => Ok(0),
-            Err(Unreadable::Memory) => Ok(0),
-            Ok(_) => Ok(0),
+            Err(Unreadable::Line { number, .. }) => Ok(Some(number)),
+            _ => Ok(None),
         }
     }
 
@@ -329,18 +241,18 @@ mod tests {
     fn a_malformed_line_is_named(rt: HostRuntime) -> Result<(), Fail> {
         assert_eq!(rt;
             refused_at(&rt, "row 7 exposure 5 prices 1 2 3 4 5 6 7")?,
-            3
+            Some(3)
         );
         assert_eq!(rt;
             refused_at(&rt, "row 7 exposure 5 prices 1 2 3 4 5 6 7 8 9")?,
-            3
+            Some(3)
         );
-        assert_eq!(rt; refused_at(&rt, "lot class 1 face 2 lost")?, 3);
-        assert_eq!(rt; refused_at(&rt, "lot class 256 face 2 held")?, 3);
-        assert_eq!(rt; refused_at(&rt, "panel 3 quotes 1 x")?, 3);
-        assert_eq!(rt; refused_at(&rt, "value 3 market")?, 3);
-        assert_eq!(rt; refused_at(&rt, "schedule standard")?, 3);
-        assert_eq!(rt; refused_at(&rt, "notice 3")?, 3);
+        assert_eq!(rt; refused_at(&rt, "lot class 1 face 2 lost")?, Some(3));
+        assert_eq!(rt; refused_at(&rt, "lot class 256 face 2 held")?, Some(3));
+        assert_eq!(rt; refused_at(&rt, "panel 3 quotes 1 x")?, Some(3));
+        assert_eq!(rt; refused_at(&rt, "value 3 market")?, Some(3));
+        assert_eq!(rt; refused_at(&rt, "schedule standard")?, Some(3));
+        assert_eq!(rt; refused_at(&rt, "notice 3")?, Some(3));
         Ok(())
     }
 

@@ -1,4 +1,3 @@
 mod Plays
-mod Shift
 mod Ranges
 mod Strikes

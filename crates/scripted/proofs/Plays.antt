@@ -1,10 +1,10 @@
 -- What an entry does, as the code does it, as fault acts, and under a map.
-use Rattle.std.proofs.Common.{◌≡◌, ℕ, suc, ◌+◌, ◌<◌, ◌≤◌, Bool, true, false, cond, eqb, ltb, List, [], ◌∷◌, ◌++◌, map, length, get_or, take, drop, sym, refl, ap, ◌∙◌, arith, lt-ltb, eq-eqb, ne_eqb}
+use Rattle.std.proofs.Common.{◌≡◌, ℕ, suc, ◌<◌, ◌≤◌, true, false, cond, eqb, ltb, List, [], ◌∷◌, ◌++◌, map, length, get_or, take, drop, sym, refl, ap, ◌∙◌, arith}
 use lib.ListN.{length-map}
 use Rattle.std.specs.List.{remove}
 use Rattle.std.proofs.lemmas.List.{append-nil, take_all, drop_all, drop_more, map-append, take-map, drop-map}
-use Rattle.scripted.specs.declared.script.Fault.{Fault}
-use Rattle.scripted.specs.declared.script.Fault.TheVariants.{Lose, Repeat, Move}
+use Rattle.scripted.specs.declared.fault.Fault.{Fault}
+use Rattle.scripted.specs.declared.fault.Fault.TheVariants.{Lose, Repeat, Move}
 use Rattle.scripted.specs.declared.script.Entry.{Entry}
 use Rattle.scripted.specs.Script.{item_at, by_fault, acted, play}
 
@@ -27,26 +27,6 @@ module _ {X : Type 0} where
       elim (ltb (length ws) places) as (λ b. ws ≡ cond b (ws ++ item_at ws i) ws) [ true ↦ sym (ap (λ (z : List X). ws ++ z) (none_at ws i h) ∙ append-nil ws) | false ↦ refl ]
   past Move places i ws h =
       sym (ap (λ (z : List X). z ++ item_at ws i) (removed_past ws i h) ∙ ap (λ (z : List X). ws ++ z) (none_at ws i h) ∙ append-nil ws)
-
-  pub repeated : (k : Fault) (places i : ℕ) (ws : List X) (x : X) → k ≡ Repeat → length ws < places → i < length ws → x ≡ get_or ws i x → ws ++ (x ∷ []) ≡ by_fault k places i ws
-  repeated k places i ws x e r h g = rw (e, lt-ltb (length ws) places r) (ap (λ (z : List X). ws ++ z) (sym (item_at_lem ws i x h g)))
-
-  pub moved : (k : Fault) (places i : ℕ) (ws : List X) (x : X) → k ≡ Move → i < length ws → x ≡ get_or ws i x → remove ws i ++ (x ∷ []) ≡ by_fault k places i ws
-  moved k places i ws x e h g = rw e (ap (λ (z : List X). remove ws i ++ z) (sym (item_at_lem ws i x h g)))
-
-  -- one turn of the loop over the script
-  step : (places count : ℕ) (script : List Entry) (i : ℕ) (d : Entry) (ws vs end : List X) (b : Bool) → i < length script → eqb (get_or script i d).count count ≡ b → play places count (drop i script) ws ≡ end → vs ≡ cond b (acted places (get_or script i d) ws) ws → play places count (drop (i + 1) script) vs ≡ end
-  step places count script i d ws vs end b h g inv v =
-      ap (play places count (drop (i + 1) script)) (v ∙ ap (λ (t : Bool). cond t (acted places (get_or script i d) ws) ws) (sym g)) ∙ sym (ap (λ (es : List Entry). play places count es ws) (drop_more script i d h)) ∙ inv
-
-  pub play_hit : (places count : ℕ) (script : List Entry) (i : ℕ) (d : Entry) (ws vs end : List X) → i < length script → (get_or script i d).count ≡ count → play places count (drop i script) ws ≡ end → vs ≡ acted places (get_or script i d) ws → play places count (drop (i + 1) script) vs ≡ end
-  play_hit places count script i d ws vs end h g inv v = step places count script i d ws vs end true h (eq-eqb (get_or script i d).count count g) inv v
-
-  pub play_miss : (places count : ℕ) (script : List Entry) (i : ℕ) (d : Entry) (ws vs end : List X) → i < length script → ((get_or script i d).count ≡ count → ⊥) → play places count (drop i script) ws ≡ end → vs ≡ ws → play places count (drop (i + 1) script) vs ≡ end
-  play_miss places count script i d ws vs end h g inv v = step places count script i d ws vs end false h (ne_eqb (get_or script i d).count count g) inv v
-
-  pub play_end : (places count : ℕ) (script : List Entry) (i : ℕ) (ws end : List X) → length script ≤ i → play places count (drop i script) ws ≡ end → ws ≡ end
-  play_end places count script i ws end h inv = sym (ap (λ (es : List Entry). play places count es ws) (drop_all i script h)) ∙ inv
 
   map_by_fault : {Y : Type 0} (f : X → Y) (k : Fault) (places i : ℕ) (ws : List X) → map f (by_fault k places i ws) ≡ by_fault k places i (map f ws)
   map_by_fault f Lose places i ws = simp (map-append, take-map, drop-map)

@@ -1,21 +1,20 @@
 -- A script's entries are fault acts, and each call pays for its own.
-use Rattle.std.proofs.Common.{◌≡◌, ℕ, ◌+◌, ◌-◌, ◌<◌, ◌≤◌, Bool, true, false, cond, eqb, ltb, List, [], ◌∷◌, ◌++◌, map, length, get_or, drop, Some, None, vec_items, Option, sym, refl, ap, ◌∙◌, subst, arith, length-append, ltb-false, ltb-true}
-use lib.ListN.{length-map}
+use Rattle.std.proofs.Common.{◌≡◌, ℕ, ◌+◌, ◌-◌, ◌<◌, ◌≤◌, Bool, true, false, cond, count_by, slice_get, eqb, lt-ltb, ltb, List, [], ◌∷◌, ◌++◌, map, length, get_or, drop, Some, None, vec_items, Option, sym, refl, ap, ◌∙◌, subst, arith, length-append, rules, ltb-false, ltb-true}
 use Rattle.std.specs.List.{insert, remove}
 use Rattle.std.proofs.lemmas.List.Edits.{length-remove}
-use Rattle.std.proofs.lemmas.List.{drop_all, drop_more, get_or_default, map-append, nil_from_length, take_all}
+use Rattle.std.proofs.lemmas.List.{drop_all, get_or_default, map-append, take_all}
+use Rattle.std.proofs.lemmas.List.Sums.{sum_by-cons}
 use Rattle.std.proofs.lemmas.Bool.Decides.{nat_tests}
 use Rattle.carrier.specs.declared.frame.Frame.{Frame}
 use Rattle.carrier.specs.Held.{held}
 use Rattle.carrier.specs.Means.{Act, Acts, copy, done, Fit, lose, move}
 use Rattle.carrier.specs.Rules.{Gathered, Joined, Taken}
 use Rattle.scripted.specs.declared.script.Entry.{Entry}
-use Rattle.scripted.specs.declared.script.Fault.{Fault}
-use Rattle.scripted.specs.declared.script.Fault.TheVariants.{Lose, Repeat, Move}
+use Rattle.scripted.specs.declared.fault.Fault.{Fault}
+use Rattle.scripted.specs.declared.fault.Fault.TheVariants.{Lose, Repeat, Move}
 use Rattle.scripted.specs.declared.scripted.Scripted.{Scripted}
-use Rattle.scripted.specs.Lines.{line_length, line_items}
 use Rattle.scripted.specs.Script.{acted, by_fault, item_at, play, unused}
-use Rattle.scripted.specs.ScriptedMeans.{FirstTaken, FrameTaken, scripted_means, state_of, Struck}
+use Rattle.scripted.specs.ScriptedMeans.{state_of}
 use Rattle.scripted.specs.State.{counted, first_gone, means, State}
 use Rattle.scripted.proofs.Plays.{item_at_lem, map_play, past}
 
@@ -59,12 +58,12 @@ both {places} {ws} {vs} {us} k a b h = record { acts = a.acts ++ b.acts; waits =
 
 -- how many entries a call has
 abbrev pub same : ℕ → List Entry → ℕ
-same count [] = 0
-same count (e ∷ es) = cond (eqb e.count count) 1 0 + same count es
+same count es = count_by (λ e. eqb e.count count) es
 
 all : (places count : ℕ) (es : List Entry) (ws : List (List ℕ)) → Did places ws (play places count es ws) (same count es)
 all places count [] ws = record { acts = []; waits = refl; few = omega arith }
-all places count (e ∷ es) ws = go (eqb e.count count) (all places count es (cond (eqb e.count count) (acted places e ws) ws))
+all places count (e ∷ es) ws =
+    subst (Did places ws (play places count (e ∷ es) ws)) (sym (sum_by-cons (λ x. cond (eqb x.count count) 1 0) e es)) (go (eqb e.count count) (all places count es (cond (eqb e.count count) (acted places e ws) ws)))
   where
     go : (b : Bool) → Did places (cond b (acted places e ws) ws) (play places count es (cond b (acted places e ws) ws)) (same count es) → Did places ws (play places count es (cond b (acted places e ws) ws)) (cond b 1 0 + same count es)
     go true d = both (1 + same count es) (one e.fault places e.position ws) d (omega arith)
@@ -75,7 +74,8 @@ falls_one c k = grind (arith, nat_tests)
 
 falls : (c : ℕ) (es : List Entry) → unused (c + 1) es + same (c + 1) es ≡ unused c es
 falls c [] = refl
-falls c (e ∷ es) = omega (arith, falls_one c e.count, falls c es)
+falls c (e ∷ es) =
+    omega (arith, falls_one c e.count, falls c es, sum_by-cons (λ e. cond (ltb (c + 1) e.count) 1 0) e es, sum_by-cons (λ e. cond (eqb e.count (c + 1)) 1 0) e es, sum_by-cons (λ e. cond (ltb c e.count) 1 0) e es)
 
 -- acts that lead from a list to what a counted call makes of it, and are paid from the faults left
 pub record Paid (s : State) (ws : List (List ℕ)) (after : State) : Type 0 where
@@ -113,54 +113,29 @@ gathers s buffer answer after filled wide e taken =
       spent = omega (arith, d.spent, ap (λ (t : State). (means t).faults) e);
     }
 
--- what a strike makes of the carrier is what a counted call makes of its state
-struck_by : (t : Bool) (p c : ℕ) (es : List Entry) (ws vs : List Frame) (p' c' : ℕ) (es' : List Entry) → vs ≡ cond t (play p (c + 1) es ws) ws → p' ≡ p → es' ≡ es → c' ≡ cond t (c + 1) c → ◌≡◌ {A = State} (record { waiting = map held vs; places = p'; script = es'; count = c' }) (cond t (record { waiting = play p (c + 1) es (map held ws); places = p; script = es; count = c + 1 }) (record { waiting = map held ws; places = p; script = es; count = c }))
-struck_by true p c es ws vs p' c' es' v q e k = let w : map held vs ≡ play p (c + 1) es (map held ws) = ap (map held) v ∙ map_play held p (c + 1) es ws in rw (w, q, e, k)
-struck_by false p c es ws vs p' c' es' v q e k = rw (v, q, e, k)
-
-pub struck : (b a : Scripted) → Struck b a → state_of a ≡ counted (state_of b) (state_of b).waiting
-struck b a k = struck_by (ltb b.count 1000000000) b.places b.count (vec_items b.script) (line_items b.waiting) (line_items a.waiting) a.places a.count (vec_items a.script) k.waits k.places k.script k.count
+-- what a strike makes of a carrier is what a counted call makes of its state
+pub struck : (p c : ℕ) (es : List Entry) (ws vs : List Frame) (p' : ℕ) → c < 1000000000 → vs ≡ play p (c + 1) es ws → p' ≡ p → ◌≡◌ {A = State} (record { waiting = map held vs; places = p'; script = es; count = c + 1 }) (counted (record { waiting = map held ws; places = p; script = es; count = c }) (map held ws))
+struck p c es ws vs p' h v q =
+    let w : map held vs ≡ play p (c + 1) es (map held ws) = ap (map held) v ∙ map_play held p (c + 1) es ws in rw (lt-ltb c 1000000000 h, w, q) refl
 
 -- the frame joined, as bytes
 pub joined_end : (ws ps : List Frame) (f : Frame) (frame : List ℕ) → ps ≡ ws ++ (f ∷ []) → held f ≡ frame → map held ps ≡ map held ws ++ (frame ∷ [])
 joined_end ws ps f frame p h = ap (map held) p ∙ map-append held ws (f ∷ []) ∙ ap (λ (z : List ℕ). map held ws ++ (z ∷ [])) h
 
-pub full : (s : Scripted) → ltb s.waiting.len s.places ≡ false → s.places ≤ length (scripted_means s).waiting
-full s h = rw length-map (omega (arith, line_length s.waiting, ltb-false s.waiting.len s.places h))
+-- a collect where no frame is first after the acts
+none_taken : (xs vs : List Frame) (p : ℕ) (es : List Entry) (k : ℕ) (buffer : List ℕ) → vs ≡ xs → None ≡ slice_get xs 0 → ◌≡◌ {A = State} (record { waiting = map held vs; places = p; script = es; count = k }) (first_gone (record { waiting = map held xs; places = p; script = es; count = k })) × Taken (map held xs) buffer None (map held vs) buffer
+none_taken [] vs p es k buffer e n = rw e (refl, (refl, refl))
+none_taken (x ∷ xs) vs p es k buffer e n = search rules
 
-none_left : (s : Scripted) → s.waiting.len ≡ 0 → line_items s.waiting ≡ []
-none_left s h = nil_from_length (line_items s.waiting) (omega (arith, line_length s.waiting))
+-- a collect where a frame is
+some_taken : (xs vs : List Frame) (p : ℕ) (es : List Entry) (k : ℕ) (buffer : List ℕ) (f : Frame) (n : ℕ) (filled : List ℕ) → vs ≡ remove xs 0 → Some f ≡ slice_get xs 0 → n ≡ length (held f) → filled ≡ held f ++ drop (length (held f)) buffer → ◌≡◌ {A = State} (record { waiting = map held vs; places = p; script = es; count = k }) (first_gone (record { waiting = map held xs; places = p; script = es; count = k })) × Taken (map held xs) buffer (Some n) (map held vs) filled
+some_taken [] vs p es k buffer f n filled e g l h = search rules
+some_taken (x ∷ xs) vs p es k buffer f n filled e g l h = let same : f ≡ x = search rules in rw e (refl, (l ∙ ap (λ (y : Frame). length (held y)) same, refl, h ∙ ap (λ (y : Frame). held y ++ drop (length (held y)) buffer) same))
 
--- the first frame of a list, and the rest
-first_left : (xs zs : List Frame) (f : Frame) → 0 < length xs → f ≡ get_or xs 0 f → zs ≡ remove xs 0 → xs ≡ f ∷ zs
-first_left xs zs f h g w = drop_more xs 0 f h ∙ ap (λ (x : Frame). x ∷ drop 1 xs) (sym g) ∙ ap (λ (ys : List Frame). f ∷ ys) (sym w)
+pub nothing_taken : (a : Scripted) (vs : List Frame) (c : State) (buffer : List ℕ) → state_of a ≡ c → vs ≡ a.waiting.frames.items → None ≡ slice_get a.waiting.frames.items 0 → ◌≡◌ {A = State} (record { waiting = map held vs; places = a.waiting.places; script = vec_items a.script; count = a.count }) (first_gone c) × Taken c.waiting buffer None (map held vs) buffer
+nothing_taken a vs c buffer s e n =
+    subst (λ (c : State). ◌≡◌ {A = State} (record { waiting = map held vs; places = a.waiting.places; script = vec_items a.script; count = a.count }) (first_gone c) × Taken c.waiting buffer None (map held vs) buffer) s (none_taken a.waiting.frames.items vs a.waiting.places (vec_items a.script) a.count buffer e n)
 
--- a collect where nothing waits after the acts
-none_taken : (a c : State) (buffer : List ℕ) → a ≡ c → a.waiting ≡ [] → (a ≡ first_gone c) × Taken c.waiting buffer None a.waiting buffer
-none_taken a c buffer e w =
-    let same : a ≡ first_gone a = ap (λ (z : List (List ℕ)). record { waiting = z; places = a.places; script = a.script; count = a.count }) (w ∙ sym (ap (drop 1) w)) in
-    let empty : c.waiting ≡ [] = sym (ap (λ (t : State). t.waiting) e) ∙ w in
-    (same ∙ ap first_gone e, subst (λ (ws : List (List ℕ)). Taken ws buffer None a.waiting buffer) (sym empty) (w, refl))
-
--- a collect where a frame waits after the acts
-some_taken : (a b c : State) (buffer filled f : List ℕ) (fs : List (List ℕ)) (n : ℕ) → a ≡ c → a.waiting ≡ f ∷ fs → b ≡ first_gone a → n ≡ length f → filled ≡ f ++ drop (length f) buffer → (b ≡ first_gone c) × Taken c.waiting buffer (Some n) b.waiting filled
-some_taken a b c buffer filled f fs n e w g len full =
-    let found : c.waiting ≡ f ∷ fs = sym (ap (λ (t : State). t.waiting) e) ∙ w in
-    let rest : b.waiting ≡ fs = ap (λ (t : State). t.waiting) g ∙ ap (drop 1) w in
-    (g ∙ ap first_gone e, subst (λ (ws : List (List ℕ)). Taken ws buffer (Some n) b.waiting filled) (sym found) (len, rest, full))
-
-pub collect_none : (s a b : Scripted) (buffer : List ℕ) → Struck s a → FirstTaken a None b → (state_of b ≡ first_gone (counted (state_of s) (state_of s).waiting)) × Taken (counted (state_of s) (state_of s).waiting).waiting buffer None (state_of b).waiting buffer
-collect_none s a b buffer k t = none_taken (state_of b) (counted (state_of s) (state_of s).waiting) buffer (t.1 ∙ struck s a k) (ap (λ (q : State). q.waiting) t.1 ∙ ap (map held) (none_left a t.0))
-
--- the taking of the first frame, by the state
-taken_state : (xs zs : List Frame) (f : Frame) (p q : ℕ) (es fs : List Entry) (c d : ℕ) → xs ≡ f ∷ zs → q ≡ p → fs ≡ es → d ≡ c → ◌≡◌ {A = State} (record { waiting = map held zs; places = q; script = fs; count = d }) (record { waiting = drop 1 (map held xs); places = p; script = es; count = c })
-taken_state xs zs f p q es fs c d e g h i = rw (e, g, h, i)
-
-pub collect_some : (s a b : Scripted) (buffer filled : List ℕ) (f : Frame) (n : ℕ) → Struck s a → FrameTaken a f b → n ≡ length (held f) → filled ≡ held f ++ drop (length (held f)) buffer → (state_of b ≡ first_gone (counted (state_of s) (state_of s).waiting)) × Taken (counted (state_of s) (state_of s).waiting).waiting buffer (Some n) (state_of b).waiting filled
-collect_some s a b buffer filled f n k t len full =
-    let first = first_left (line_items a.waiting) (line_items b.waiting) f (omega (arith, t.some, line_length a.waiting)) t.first t.rest in
-    let gone = taken_state (line_items a.waiting) (line_items b.waiting) f a.places b.places (vec_items a.script) (vec_items b.script) a.count b.count first t.places t.script t.count in
-    some_taken (state_of a) (state_of b) (counted (state_of s) (state_of s).waiting) buffer filled (held f) (map held (line_items b.waiting)) n (struck s a k) (ap (map held) first) gone len full
-
-pub free : (s : Scripted) → ltb s.waiting.len s.places ≡ true → length (scripted_means s).waiting < s.places
-free s h = rw length-map (omega (arith, line_length s.waiting, ltb-true s.waiting.len s.places h))
+pub first_taken : (a : Scripted) (vs : List Frame) (c : State) (buffer : List ℕ) (f : Frame) (n : ℕ) (filled : List ℕ) → state_of a ≡ c → vs ≡ remove a.waiting.frames.items 0 → Some f ≡ slice_get a.waiting.frames.items 0 → n ≡ length (held f) → filled ≡ held f ++ drop (length (held f)) buffer → ◌≡◌ {A = State} (record { waiting = map held vs; places = a.waiting.places; script = vec_items a.script; count = a.count }) (first_gone c) × Taken c.waiting buffer (Some n) (map held vs) filled
+first_taken a vs c buffer f n filled s e g l h =
+    subst (λ (c : State). ◌≡◌ {A = State} (record { waiting = map held vs; places = a.waiting.places; script = vec_items a.script; count = a.count }) (first_gone c) × Taken c.waiting buffer (Some n) (map held vs) filled) s (some_taken a.waiting.frames.items vs a.waiting.places (vec_items a.script) a.count buffer f n filled e g l h)

@@ -1,4 +1,4 @@
-pub mod Lines
+pub mod Words
 pub mod Script
 pub mod State
 pub mod ScriptedMeans

@@ -2,9 +2,11 @@
 //! position that it strikes. The same script and the same calls give the same frames every time.
 #![tactic(auto)]
 
+pub mod fault;
 mod line;
 pub mod script;
 pub mod scripted;
 
-pub use script::{Entry, Fault};
+pub use fault::{Fault, UnknownFault};
+pub use script::Entry;
 pub use scripted::Scripted;

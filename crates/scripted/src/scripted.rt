@@ -1,6 +1,4 @@
 //! The scripted carrier: what it holds.
-ghost use Rattle.std.specs.Prelude.{◌≤◌};
-
 use crate::line::Line;
 use crate::script::Entry;
 
@@ -13,10 +11,6 @@ pub mod views;
 #[derive(Drop)]
 pub struct Scripted {
     waiting: Line,
-    places: usize,
     script: Vec<Entry>,
     count: u32,
-    ghost some: { 1 ≤ places },
-    ghost room: { waiting.len ≤ places },
-    ghost most: { places ≤ 16 },
 }

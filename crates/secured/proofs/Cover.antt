@@ -47,18 +47,7 @@ disputed_calling day.Offered e = e
 disputed_calling day.Released e = e
 disputed_calling day.Satisfied e = e
 
-pub open_calling : (x : DayState) → is_open x ≡ true → is_calling x ≡ true
-open_calling day.Unset e = e
-open_calling day.Quiet e = e
-open_calling day.Called e = refl
-open_calling day.Agreed e = e
-open_calling day.Disputed e = e
-open_calling day.Resolved e = e
-open_calling day.Offered e = e
-open_calling day.Released e = e
-open_calling day.Satisfied e = e
-
-pub offered_offering : (x : DayState) → is_offered x ≡ true → is_offering x ≡ true
+offered_offering : (x : DayState) → is_offered x ≡ true → is_offering x ≡ true
 offered_offering day.Unset e = e
 offered_offering day.Quiet e = e
 offered_offering day.Called e = e

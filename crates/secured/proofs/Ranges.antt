@@ -3,7 +3,7 @@ use Rattle.std.proofs.Common.{◌≡◌, ℕ, ◌≤◌, Bool, true, ltb, leb, �
 use Rattle.std.proofs.lemmas.Bool.{and_parts}
 use Rattle.annex.specs.declared.agreed.Annex.{Annex}
 use Rattle.annex.specs.declared.row.Row.{Row}
-use Rattle.annex.specs.Every.{every}
+use Rattle.std.specs.List.{list_all}
 use Rattle.annex.specs.Row.{exposure_fits, price_fits}
 use Rattle.annex.proofs.Ranges.{Checked}
 use Rattle.amounts.specs.declared.lots.SecuredLot.{SecuredLot}
@@ -24,7 +24,7 @@ use Rattle.secured.proofs.Tables.{entry_fits, entry_at, owe_fits, table_set}
 
 module _ (s : SecuredState) (r : Ranged s) where
   -- V is at most 6.4 × 10^11
-  pub value_within : (row : Row) → every price_fits row.prices ≡ true → value_by s row ≤ 640000000000
+  pub value_within : (row : Row) → list_all price_fits row.prices ≡ true → value_by s row ≤ 640000000000
   value_within row k = total_within counts_at_secured s.lots r.1 (terms_of s) row s.annex.fit k
 
   pub lot_ranged : (l : ℕ) (x : SecuredLot) → entry_fits x ≡ true → Ranged (with_lot s l x)

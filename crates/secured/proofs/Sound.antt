@@ -1,7 +1,9 @@
 -- What calls and bookings leave is sound.
-use Rattle.std.proofs.Common.{◌≡◌, ℕ, ◌<◌, Bool, true, false, cond, ◌&&◌, ◌||◌, eqb, ltb, leb, ℤ, IfOk, Ok, Err, Result, sym, refl, ap, ◌∙◌, subst, ltb-true}
+use Rattle.std.proofs.Common.{◌≡◌, ℕ, ◌<◌, Bool, true, false, cond, ◌&&◌, ◌||◌, eqb, ltb, leb, ℤ, Some, IfOk, Ok, Err, Result, sym, refl, ap, ◌∙◌, subst, ltb-true}
+use Rattle.std.proofs.lemmas.Option.{cond_some}
 use Rattle.refusal.specs.declared.Refusal.{Refusal}
 use Rattle.refusal.specs.declared.Refusal.TheVariants as refused
+use Rattle.annex.specs.declared.agreed.Annex.{Annex}
 use Rattle.annex.specs.declared.row.Row.{Row}
 use Rattle.annex.specs.Row.{checked_row}
 use Rattle.annex.proofs.Ranges.{checked}
@@ -14,21 +16,26 @@ use Rattle.message.specs.declared.Message.{Message}
 use Rattle.secured.specs.declared.state.Finding.{Finding}
 use Rattle.secured.specs.declared.state.SecuredState.{SecuredState}
 use Rattle.secured.specs.declared.state.Weighing.{Weighing}
-use Rattle.secured.specs.Bookings.{books, fits}
+use Rattle.secured.specs.Bookings.{booked, books, fits}
 use Rattle.secured.specs.Calls.{SecuredCall, notify, resolve, confirm, reply, drafts, exposure_or, notifying, replying, noticed, resolve_fits, telling}
 use Rattle.secured.specs.Lots.{lot_at, terms_of}
+use Rattle.secured.specs.Opening.{opened}
 use Rattle.secured.specs.Sound.{Kept, Ranged, Sound}
-use Rattle.secured.specs.Weighs.{same_notice, weighing, weighs_at}
-use Rattle.secured.proofs.Cover.{books_kept, confirm_kept, notify_kept, reply_kept, resolve_kept}
-use Rattle.secured.proofs.Ranges.{books_ranged, day_ranged, lot_ranged, notice_ranged, resolve_in_range}
+use Rattle.secured.specs.Weighs.{same_notice, weighing, weighs, weighs_at}
+use Rattle.secured.proofs.Cover.{books_kept, confirm_kept, notify_kept, opened_kept, reply_kept, resolve_kept}
+use Rattle.secured.proofs.Ranges.{books_ranged, day_ranged, lot_ranged, notice_ranged, opened_ranged, resolve_in_range}
 use Rattle.secured.proofs.Tables.{entry_fits, adds_now, entry_at}
 
--- booking, whether it fits or not
-pub booked_sound : (s : SecuredState) → Ranged s → Kept s → (m : Message) → Sound (cond (fits s m) (books s m) s)
-booked_sound s r h m = go (fits s m) refl where
-  go : (b : Bool) → fits s m ≡ b → Sound (cond b (books s m) s)
-  go true e = (books_ranged s r m e, books_kept s r.3 h m e)
-  go false e = (r, h)
+-- the book as opened
+pub opened_sound : (a : Annex) → Sound (opened a)
+opened_sound a = (opened_ranged a, opened_kept a)
+
+-- the book after a message that fits
+pub books_sound : (s : SecuredState) → Sound s → (m : Message) → fits s m ≡ true → Sound (books s m)
+books_sound s h m e = (books_ranged s h.0 m e, books_kept s h.0.3 h.1 m e)
+
+pub booked_sound : (s : SecuredState) → Sound s → (m : Message) (t : SecuredState) → booked s m ≡ Some t → Sound t
+booked_sound s h m t e = let p = cond_some (fits s m) (books s m) t e in subst Sound p.1 (books_sound s h m p.0)
 
 abbrev Drafted : Result (Message × SecuredState) Refusal → Type 0
 Drafted x = IfOk x (λ z. Sound z.1)
@@ -61,9 +68,10 @@ module _ (s : SecuredState) (r : Ranged s) (h : Kept s) where
   drafts_sound confirm = behind (is_closing s.day.state) _ _ (λ t. behind (is_released s.day.state || leb s.day.amount s.delivered) _ _ (λ u. (day_ranged s r s.exposure (day_in s.day day.Satisfied) r.2, confirm_kept s r.3 h t u)))
   drafts_sound (reply l) = behind (ltb l 32) _ _ (λ t. replied l (ltb-true l 32 t) (lot_at s l) refl)
 
-  pub drafted_sound : (c : SecuredCall) (x : Result (Message × SecuredState) Refusal) → x ≡ drafts s c → IfOk x (λ z. Sound z.1)
-  drafted_sound c x e = subst Drafted (sym e) (drafts_sound c)
+-- the book after a call
+pub drafted_sound : (s : SecuredState) → Sound s → (c : SecuredCall) (m : Message) (t : SecuredState) → drafts s c ≡ Ok (m, t) → Sound t
+drafted_sound s h c m t e = subst Drafted e (drafts_sound s h.0 h.1 c)
 
--- a row that came to the finding
-pub notifying_found : (s : SecuredState) (f : Finding) (r : Row) (w : Weighing) (m : Message) (t : SecuredState) → eqb f.day r.day ≡ true → same_notice f.notice w.notice ≡ true → m ≡ telling r.day w.exposure w.notice → t ≡ noticed s r w → Ok (m, t) ≡ notifying s f r (Ok w)
-notifying_found s f r w m t h k p q = rw (h, k) (cc)
+-- notifying a row that came to the finding
+pub notifying_found : (s : SecuredState) (f : Finding) (r : Row) (w : Weighing) (m : Message) (t : SecuredState) → weighs s r ≡ Ok w → (eqb f.day r.day && same_notice f.notice w.notice) ≡ true → m ≡ telling r.day w.exposure w.notice → t ≡ noticed s r w → Ok (m, t) ≡ notifying s f r (weighs s r)
+notifying_found s f r w m t e h p q = rw (e, h) (cc)

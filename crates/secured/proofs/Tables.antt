@@ -3,7 +3,7 @@ use Rattle.std.proofs.Common.{◌≡◌, ℕ, zero, suc, ◌+◌, ◌<◌, Bool,
 use borrow.Author.Tests.{clash}
 use Rattle.std.proofs.lemmas.List.Sums.{sum_by-set}
 use Rattle.std.proofs.lemmas.Bool.{and_parts}
-use Rattle.annex.specs.Every.{every}
+use Rattle.std.specs.List.{list_all}
 use Rattle.annex.proofs.Tests.{every_get_d}
 use Rattle.amounts.specs.declared.lots.SecuredLot.{SecuredLot}
 use Rattle.amounts.specs.declared.lots.SecuredLot.TheVariants.{Absent, Held, OwedBack, DeclineOwed}
@@ -15,10 +15,10 @@ use Rattle.secured.specs.Calls.{with_lot}
 use Rattle.secured.specs.Lots.{is_absent, is_held, lot_at, terms_of, value_now, worth_at}
 
 -- a written element that passes leaves a list that passes
-pub every_set : {A : Type 0} (test : A → Bool) (xs : List A) (i : ℕ) (x : A) → every test xs ≡ true → test x ≡ true → every test (set xs i x) ≡ true
+pub every_set : {A : Type 0} (test : A → Bool) (xs : List A) (i : ℕ) (x : A) → list_all test xs ≡ true → test x ≡ true → list_all test (set xs i x) ≡ true
 every_set test [] i x e h = refl
-every_set test (y ∷ ys) zero x e h = rw h (and_parts (test y) (every test ys) e).1
-every_set test (y ∷ ys) (suc i) x e h = let p = and_parts (test y) (every test ys) e in let q = p.0 in rw q (every_set test ys i x p.1 h)
+every_set test (y ∷ ys) zero x e h = rw h (and_parts (test y) (list_all test ys) e).1
+every_set test (y ∷ ys) (suc i) x e h = let p = and_parts (test y) (list_all test ys) e in let q = p.0 in rw q (every_set test ys i x p.1 h)
 
 -- the entry is empty or its lot is in range
 abbrev pub entry_fits : SecuredLot → Bool
@@ -26,12 +26,12 @@ entry_fits x = counted_fits (counts_at_secured x)
 
 pub table_set : (ls : List SecuredLot) (l : ℕ) (x : SecuredLot) → table_fits counts_at_secured ls ≡ true → entry_fits x ≡ true → table_fits counts_at_secured (set ls l x) ≡ true
 table_set ls l x t h =
-    let p = and_parts (leb (length ls) 32) (every entry_fits ls) t in
+    let p = and_parts (leb (length ls) 32) (list_all entry_fits ls) t in
     let a : leb (length (set ls l x)) 32 ≡ true = ap (λ n. leb n 32) (length-set ls l x) ∙ p.0 in
     rw a (every_set entry_fits ls l x p.1 h)
 
 pub entry_at : (ls : List SecuredLot) (l : ℕ) → table_fits counts_at_secured ls ≡ true → entry_fits (get_or ls l Absent) ≡ true
-entry_at ls l t = every_get_d entry_fits Absent refl ls (and_parts (leb (length ls) 32) (every entry_fits ls) t).1 l
+entry_at ls l t = every_get_d entry_fits Absent refl ls (and_parts (leb (length ls) 32) (list_all entry_fits ls) t).1 l
 
 pub owe_fits : (b : Bool) (x : SecuredLot) → entry_fits x ≡ true → entry_fits (owe b x) ≡ true
 owe_fits b Absent h = refl

@@ -1,5 +1,5 @@
 -- Booking: which messages of the pledgor fit the secured book, and the book after one.
-use Rattle.std.specs.Prelude.{ℕ, ◌+◌, Bool, true, false, cond, ◌&&◌, List, ◌==◌, nat_le, nat_lt, slice_set}
+use Rattle.std.specs.Prelude.{ℕ, ◌+◌, Bool, true, false, cond, ◌&&◌, List, Some, None, Option, ◌==◌, nat_le, nat_lt, slice_set}
 use Rattle.amounts.specs.declared.lots.Lot.{Lot}
 use Rattle.amounts.specs.declared.lots.SecuredLot.{SecuredLot}
 use Rattle.amounts.specs.declared.lots.SecuredLot.TheVariants.{Absent, Held, OwedBack, DeclineOwed}
@@ -152,3 +152,7 @@ books s m =
       freed = freed_after s m;
       lots = lots_after s m;
     }
+
+-- the book after a message, if it fits
+abbrev pub booked : SecuredState → Message → Option SecuredState
+booked s m = cond (fits s m) (Some (books s m)) None

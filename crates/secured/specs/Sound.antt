@@ -1,6 +1,6 @@
 -- What the secured book keeps by itself, whatever the pledgor sends.
 use Rattle.std.specs.Prelude.{◌≡◌, ℕ, ◌+◌, ◌<◌, ◌≤◌, true, length, ℤ, pos, ◌<ℤ◌}
-use Rattle.annex.specs.Every.{every}
+use Rattle.std.specs.List.{list_all}
 use Rattle.annex.specs.Row.{exposure_fits, price_fits}
 use Rattle.amounts.specs.Amounts.{credit_support}
 use Rattle.amounts.specs.Amounts as amounts
@@ -13,7 +13,7 @@ use Rattle.secured.specs.Lots.{terms_of, value_now}
 -- prices, counted lots and exposure are in range, the table has 32 entries, and V at notifying is in range
 abbrev pub Ranged : SecuredState → Type 0
 Ranged s =
-    (every price_fits s.row.prices ≡ true)
+    (list_all price_fits s.row.prices ≡ true)
     × (table_fits counts_at_secured s.lots ≡ true)
     × (exposure_fits s.exposure ≡ true)
     × (length s.lots ≡ 32)

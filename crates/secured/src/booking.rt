@@ -1,12 +1,9 @@
 //! What a message of the pledgor does to the book.
 ghost use Rattle.std.specs.Prelude.{◌≡◌, ◌≤◌, true, if◌then◌else◌};
-ghost use Rattle.annex.specs.Every.{every};
-ghost use Rattle.annex.specs.Row.{price_fits};
 ghost use Rattle.amounts.specs.Lots.{lot_fits};
 ghost use Rattle.message.specs.declared.Message.TheVariants.{Delivery, Substitute, Ask};
-ghost use Rattle.secured.specs.Bookings.{books, fits};
+ghost use Rattle.secured.specs.Bookings.{booked, books, fits};
 ghost use Rattle.secured.specs.Lots.{worth as Worth};
-ghost use Rattle.secured.specs.Sound.{Kept, Ranged};
 
 use crate::book::SecuredBook;
 use crate::state::SecuredState;
@@ -14,131 +11,103 @@ use amounts::{Lot, SecuredLot, value};
 use day::DayState;
 use message::Message;
 
-impl SecuredState {
+impl SecuredBook {
     // The Value of a lot in range by the row last notified.
     fn worth(&self, lot: &Lot) -> u64
-        requires prices { every price_fits self.now.row.prices ≡ true }
-        requires lot { lot_fits lot.now ≡ true }
-        ensures value { result ≡ Worth self.now lot.now }
+        requires { lot_fits lot.now ≡ true }
+        ensures value { result ≡ Worth self.now.state lot.now }
         ensures bound { result ≤ 20000000000 }
     {
-        match value(&self.annex, &self.row, lot) {
-            Ok(v) => v,
-            Err(_) => 0,
-        }
+        value(&self.state.annex, &self.state.row, lot).unwrap()
     }
 
     // A delivered lot is held, and its Value counts for the day where that is open and the lot's own.
-    fn book_delivery(&mut self, day: u32, lot: u8, class: u8, face: u64) -> bool
-        requires ranged { Ranged self.old }
-        requires kept { Kept self.old }
-        ensures answer { result ≡ fits self.old (Delivery day lot class face) }
-        ensures after { self.new ≡ (if fits self.old (Delivery day lot class face) then books self.old (Delivery day lot class face) else self.old) }
+    fn booked_delivery(&self, day: u32, lot: u8, new: Lot) -> Option<SecuredState>
+        ensures { result ≡ booked self.now.state (Delivery day lot new.class new.face) }
     {
-        let new = Lot { class, face };
-        if day > self.day.number || lot >= 32 || !new.fits() {
-            return false;
+        if day > self.state.day.number || !new.fits() {
+            return None;
         }
-        match self.lots[lot as usize] {
-            SecuredLot::Absent => {}
-            _ => return false,
+        let Some(SecuredLot::Absent) = self.state.lots.get(usize::from(lot)) else {
+            return None;
+        };
+        let mut after = self.state;
+        after.lots[usize::from(lot)] = SecuredLot::Held(new);
+        if self.state.day.is_open() && day == self.state.day.number {
+            after.delivered += self.worth(&new);
         }
-        let worth = self.worth(&new);
-        self.lots[lot as usize] = SecuredLot::Held(new);
-        match self.day.state {
-            DayState::Agreed | DayState::Disputed | DayState::Resolved if day == self.day.number =>
-                {
-                    self.delivered += worth;
-                }
-            _ => {}
-        }
-        true
+        Some(after)
     }
 
     // A substitute is held; its old lot is owed back if a day was notified and the new Value is at least the
     // old, else its decline is owed.
-    fn book_substitute(&mut self, lot: u8, class: u8, face: u64, old: u8) -> bool
-        requires ranged { Ranged self.old }
-        ensures answer { result ≡ fits self.old (Substitute lot class face old) }
-        ensures after { self.new ≡ (if fits self.old (Substitute lot class face old) then books self.old (Substitute lot class face old) else self.old) }
+    fn booked_substitute(&self, lot: u8, new: Lot, old: u8) -> Option<SecuredState>
+        ensures { result ≡ booked self.now.state (Substitute lot new.class new.face old) }
     {
-        let new = Lot { class, face };
-        if lot >= 32 || old >= 32 || !new.fits() {
-            return false;
+        let Some(SecuredLot::Absent) = self.state.lots.get(usize::from(lot)) else {
+            return None;
+        };
+        let Some(SecuredLot::Held(prior)) = self.state.lots.get(usize::from(old)).copied() else {
+            return None;
+        };
+        if !new.fits() {
+            return None;
         }
-        match self.lots[lot as usize] {
-            SecuredLot::Absent => {}
-            _ => return false,
-        }
-        let entry = self.lots[old as usize];
-        match entry {
-            SecuredLot::Held(prior) => {
-                let replaces = self.day.number > 0 && self.worth(&prior) <= self.worth(&new);
-                self.lots[lot as usize] = SecuredLot::Held(new);
-                self.lots[old as usize] = if replaces {
-                    SecuredLot::OwedBack(prior)
-                } else {
-                    SecuredLot::DeclineOwed(prior)
-                };
-                true
-            }
-            _ => false,
-        }
+        // The number is 0 where there is no day yet.
+        let replaces = self.state.day.number > 0 && self.worth(&prior) <= self.worth(&new);
+        let mut after = self.state;
+        after.lots[usize::from(lot)] = SecuredLot::Held(new);
+        after.lots[usize::from(old)] = if replaces {
+            SecuredLot::OwedBack(prior)
+        } else {
+            SecuredLot::DeclineOwed(prior)
+        };
+        Some(after)
     }
 
     // An asked lot is owed back in the offer of its day if the Values so freed are within the amount, else
     // its decline is owed.
-    fn book_ask(&mut self, day: u32, lot: u8) -> bool
-        requires ranged { Ranged self.old }
-        requires kept { Kept self.old }
-        ensures answer { result ≡ fits self.old (Ask day lot) }
-        ensures after { self.new ≡ (if fits self.old (Ask day lot) then books self.old (Ask day lot) else self.old) }
+    fn booked_ask(&self, day: u32, lot: u8) -> Option<SecuredState>
+        ensures { result ≡ booked self.now.state (Ask day lot) }
     {
-        if day > self.day.number || lot >= 32 {
-            return false;
+        if day > self.state.day.number {
+            return None;
         }
-        let entry = self.lots[lot as usize];
-        match entry {
-            SecuredLot::Held(asked) => {
-                let worth = self.worth(&asked);
-                match self.day.state {
-                    DayState::Offered
-                        if day == self.day.number && self.freed + worth <= self.day.amount => {
-                        self.freed += worth;
-                        self.lots[lot as usize] = SecuredLot::OwedBack(asked);
-                    }
-                    _ => {
-                        self.lots[lot as usize] = SecuredLot::DeclineOwed(asked);
-                    }
-                }
-                true
-            }
-            _ => false,
+        let Some(SecuredLot::Held(asked)) = self.state.lots.get(usize::from(lot)).copied() else {
+            return None;
+        };
+        let worth = self.worth(&asked);
+        let mut after = self.state;
+        if self.state.day.state == DayState::Offered
+            && day == self.state.day.number
+            && self.state.freed + worth <= self.state.day.amount
+        {
+            after.freed += worth;
+            after.lots[usize::from(lot)] = SecuredLot::OwedBack(asked);
+        } else {
+            after.lots[usize::from(lot)] = SecuredLot::DeclineOwed(asked);
         }
+        Some(after)
     }
 
-    // Books a message of the pledgor, if it fits: what it does depends on the day's state and the message
-    // together.
-    fn book(&mut self, message: Message) -> bool
-        requires ranged { Ranged self.old }
-        requires kept { Kept self.old }
-        ensures answer { result ≡ fits self.old message }
-        ensures after { self.new ≡ (if fits self.old message then books self.old message else self.old) }
+    // The state after a message of the pledgor, if it fits: what it does depends on the day's state and the
+    // message together.
+    fn booked(&self, message: Message) -> Option<SecuredState>
+        ensures { result ≡ booked self.now.state message }
     {
-        let both = (self.day.state, message);
+        let state = &self.state;
+        // The pair is bound first: with guards on a pair that is built in the match, no proof was found.
+        let both = (state.day.state, message);
         match both {
-            (DayState::Called, Message::Agree { day }) if day == self.day.number => {
-                self.day.state = DayState::Agreed;
-                true
+            (DayState::Called, Message::Agree { day }) if day == state.day.number => {
+                Some(state.with_state(DayState::Agreed))
             }
             (DayState::Called, Message::Dispute { day, amount })
-                if day == self.day.number && amount < self.day.amount => {
-                self.day.state = DayState::Disputed;
-                true
+                if day == state.day.number && amount < state.day.amount => {
+                Some(state.with_state(DayState::Disputed))
             }
-            (DayState::Offered, Message::Release { day }) if day == self.day.number => {
-                self.day.state = DayState::Released;
-                true
+            (DayState::Offered, Message::Release { day }) if day == state.day.number => {
+                Some(state.with_state(DayState::Released))
             }
             (
                 _,
@@ -148,7 +117,7 @@ impl SecuredState {
                     class,
                     face,
                 },
-            ) => self.book_delivery(day, lot, class, face),
+            ) => self.booked_delivery(day, lot, Lot { class, face }),
             (
                 _,
                 Message::Substitute {
@@ -157,19 +126,24 @@ impl SecuredState {
                     face,
                     old,
                 },
-            ) => self.book_substitute(lot, class, face, old),
-            (_, Message::Ask { day, lot }) => self.book_ask(day, lot),
-            _ => false,
+            ) => self.booked_substitute(lot, Lot { class, face }, old),
+            (_, Message::Ask { day, lot }) => self.booked_ask(day, lot),
+            _ => None,
         }
     }
-}
 
-impl SecuredBook {
     /// Books a message of the pledgor and tells whether it fits; one that does not changes nothing.
+    // A bool, as of a set's `insert`: whether the call changed anything.
     pub fn book(&mut self, message: Message) -> bool
         ensures answer { result ≡ fits self.old.state message }
         ensures after { self.new.state ≡ (if fits self.old.state message then books self.old.state message else self.old.state) }
     {
-        self.state.book(message)
+        match self.booked(message) {
+            Some(state) => {
+                self.state = state;
+                true
+            }
+            None => false,
+        }
     }
 }

@@ -11,4 +11,5 @@ pub mod views;
 pub mod weighs;
 
 pub use book::SecuredBook;
+pub use calls::telling;
 pub use state::{Finding, SecuredState};

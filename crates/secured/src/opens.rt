@@ -15,6 +15,7 @@ impl SecuredBook {
     {
         let state = SecuredState {
             annex,
+            // No row yet, and so no exposure: without prices every Value is 0.
             row: Row {
                 day: 0,
                 exposure: None,

@@ -1,7 +1,11 @@
 //! What the secured end keeps, as plain values.
+ghost use Rattle.std.specs.Prelude.{◌≡◌};
+ghost use Rattle.day.specs.Days.{day_in};
+ghost use Rattle.secured.specs.Calls.{with_day};
+
 use amounts::{Notice, SecuredLot};
 use annex::{Annex, Row};
-use day::Day;
+use day::{Day, DayState};
 
 /// What the secured end keeps.
 #[derive(Clone, Copy)]
@@ -19,6 +23,18 @@ pub struct SecuredState {
     /// The Values of the lots freed under the day's offer.
     pub freed: u64,
     pub lots: [SecuredLot; 32],
+}
+
+impl SecuredState {
+    // The same with its day in another state.
+    pub(crate) fn with_state(&self, state: DayState) -> SecuredState
+        ensures { result ≡ with_day self.now self.now.exposure (day_in self.now.day state) }
+    {
+        SecuredState {
+            day: self.day.in_state(state),
+            ..*self
+        }
+    }
 }
 
 /// What a row comes to.

@@ -1,25 +1,12 @@
 //! What the book shows.
-ghost use Rattle.std.specs.Prelude.{◌≡◌, ◌≤◌, pos, negsuc, ◌≤ℤ◌};
-ghost use Rattle.amounts.specs.Amounts as amounts;
+ghost use Rattle.std.specs.Prelude.{◌≡◌, ◌≤◌};
 ghost use Rattle.secured.specs.Lots.{lot_at, position as Position, value_now};
 ghost use Rattle.secured.specs.Sound.{Covered, uncovered as Uncovered};
 
 use crate::book::SecuredBook;
-use amounts::{Lot, SecuredLot};
-use annex::Terms;
+use amounts::{Lot, SecuredLot, adjusted, total};
+use annex::Exposure;
 use day::Day;
-
-// Exposure and the pledgor's independent amount, less the secured party's, less V.
-fn less_value(terms: &Terms, exposure: i64, value: u64) -> i64
-    requires pledgor { terms.now.pledgor_independent ≤ 1000000000000 }
-    requires secured { terms.now.secured_independent ≤ 1000000000000 }
-    requires low { negsuc 9999999999999 ≤ℤ exposure }
-    requires high { exposure ≤ℤ pos 10000000000000 }
-    requires value { value ≤ 640000000000 }
-    ensures { result ≡ amounts.uncovered terms.now exposure value }
-{
-    exposure + terms.pledgor_independent as i64 - terms.secured_independent as i64 - value as i64
-}
 
 impl SecuredBook {
     /// The day in hand. While it is quiet or satisfied, uncovered exposure is below the threshold and the
@@ -47,9 +34,10 @@ impl SecuredBook {
 
     /// V by the row last notified.
     pub fn value(&self) -> u64
-        ensures { result ≡ value_now self.now.state }
+        ensures value { result ≡ value_now self.now.state }
+        ensures bound { result ≤ 640000000000 }
     {
-        self.state.value_by(&self.state.row)
+        total(&self.state.annex, &self.state.row, &self.state.lots).unwrap()
     }
 
     /// The exposure last notified or resolved, plus the pledgor's less the secured party's independent
@@ -59,29 +47,27 @@ impl SecuredBook {
         ensures amount { result ≡ Uncovered self.now.state }
         ensures covered { Covered self.now.state }
     {
-        less_value(&self.state.annex.terms(), self.state.exposure, self.value())
+        let exposure = Exposure {
+            hundredths: self.state.exposure,
+        };
+        adjusted(&self.state.annex, exposure) - self.value() as i64
     }
 
     /// The entry of a lot; absent past the table.
     pub fn lot(&self, lot: u8) -> SecuredLot
         ensures { result ≡ lot_at self.now.state lot }
     {
-        if lot < 32 {
-            self.state.lots[lot as usize]
-        } else {
-            SecuredLot::Absent
-        }
+        self.state
+            .lots
+            .get(usize::from(lot))
+            .copied()
+            .unwrap_or(SecuredLot::Absent)
     }
 
     /// The lot's class and face, where it is in the position: all but absent.
     pub fn position(&self, lot: u8) -> Option<Lot>
         ensures { result ≡ Position self.now.state lot }
     {
-        match self.lot(lot) {
-            SecuredLot::Absent => None,
-            SecuredLot::Held(lot) => Some(lot),
-            SecuredLot::OwedBack(lot) => Some(lot),
-            SecuredLot::DeclineOwed(lot) => Some(lot),
-        }
+        self.lot(lot).lot()
     }
 }

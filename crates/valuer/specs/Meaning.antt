@@ -2,13 +2,12 @@
 use Rattle.std.specs.Prelude.{ℕ, Bool, cond, ◌&&◌, List, [], ◌∷◌, length, ℤ, pos, ◌+ℤ◌, Some, None, fold, Option, ◌==◌, nat_le, nat_lt, slice_index_or}
 use Rattle.std.specs.Int.{int_div_euclid}
 use Rattle.annex.specs.declared.row.Row.{Row}
-use Rattle.annex.specs.Every.{every}
+use Rattle.std.specs.List.{find, list_all}
 use Rattle.annex.specs.Row.{exposure_fits}
 
 -- the first row of a day
 abbrev pub row_in : List Row → ℕ → Option Row
-row_in [] day = None
-row_in (r ∷ rs) day = cond (r.day == day) (Some r) (row_in rs day)
+row_in rs day = find (λ r. r.day == day) rs
 
 abbrev pub exposure_of : Option Row → Option ℤ
 exposure_of None = None
@@ -21,7 +20,7 @@ price_of (Some r) class = cond (nat_lt class 8) (slice_index_or r.prices class N
 
 -- at most four quotes, each in the range of an exposure
 abbrev pub quotes_fit : List ℤ → Bool
-quotes_fit qs = nat_le (length qs) 4 && every exposure_fits qs
+quotes_fit qs = nat_le (length qs) 4 && list_all exposure_fits qs
 
 -- the mean of the quotes, rounded down (the divisor is positive); none without quotes
 abbrev pub mean_of : List ℤ → Option ℤ

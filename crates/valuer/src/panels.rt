@@ -1,6 +1,7 @@
 //! One day's mid-market quotes, over the caller's numbers.
-ghost use Rattle.std.specs.Prelude.{◌≡◌, true, false, pos, ◌<ℤ◌, None, MatchResult};
-ghost use Rattle.std.specs.Int.{int_div_euclid};
+ghost use Rattle.std.specs.Prelude.{◌≡◌, true, false, None, MatchResult};
+ghost use Rattle.std.specs.List.{list_all};
+ghost use Rattle.annex.specs.Row.{exposure_fits};
 ghost use Rattle.refusal.specs.declared.Refusal.TheVariants.{Row};
 ghost use Rattle.valuer.specs.Meaning.{mean_of, panel_exposure, quotes_fit};
 
@@ -13,32 +14,23 @@ use refusal::Refusal;
 pub struct Panel<'a> {
     day: u32,
     quotes: &'a [i64],
+    ghost fit: { quotes_fit quotes.now ≡ true },
 }
 
 /// The most quotes that a panel may have.
 pub const MOST_QUOTES: usize = 4;
 
+fn all_fit(quotes: &[i64]) -> bool
+    ensures { result ≡ list_all exposure_fits quotes.now }
+{
+    quotes.iter().all(|quote| exposure_fits(*quote))
+}
+
 // Whether there are at most four quotes, each in the range of an exposure.
 fn quotes_fit(quotes: &[i64]) -> bool
     ensures { result ≡ quotes_fit quotes.now }
 {
-    if quotes.len() > MOST_QUOTES {
-        return false;
-    }
-    for quote in quotes {
-        if !exposure_fits(*quote) {
-            return false;
-        }
-    }
-    true
-}
-
-// The quotient, rounded towards minus infinity.
-fn floor_quotient(sum: i64, count: i64) -> i64
-    requires { pos 0 <ℤ count }
-    ensures { result ≡ int_div_euclid sum count }
-{
-    sum.div_euclid(count)
+    quotes.len() <= MOST_QUOTES && all_fit(quotes)
 }
 
 // The mean, rounded down; none without quotes.
@@ -49,11 +41,12 @@ fn mean(quotes: &[i64]) -> Option<i64>
     if quotes.is_empty() {
         return None;
     }
+    // A `for`: tried as a chain, whose `sum` of signed numbers left the bound on the partial sums open.
     let mut sum = 0;
     for quote in quotes {
         sum += *quote;
     }
-    Some(floor_quotient(sum, quotes.len() as i64))
+    Some(sum.div_euclid(quotes.len() as i64))
 }
 
 impl<'a> Panel<'a> {
@@ -75,7 +68,7 @@ impl Valuer for Panel<'_> {
     ghost prices = { λ s day class. None };
 
     fn exposure(&self, day: u32) -> Option<i64> {
-        if self.day == day && quotes_fit(self.quotes) {
+        if self.day == day {
             mean(self.quotes)
         } else {
             None

@@ -2,6 +2,7 @@
 ghost use Rattle.std.specs.Prelude.{◌≡◌, ℕ, ◌<◌, ℤ, None, Option, slice_index_or};
 
 use annex::Row;
+use std::array;
 
 /// Tells, for each day, an exposure and a price for each class; either may be absent.
 pub trait Valuer {
@@ -24,14 +25,9 @@ pub fn read_row<V: Valuer>(valuer: &V, day: u32) -> Row
     ensures exposure { result.exposure ≡ V.Valuer.exposures valuer.now day }
     ensures prices { (c : ℕ) → c < 8 → slice_index_or result.prices c None ≡ V.Valuer.prices valuer.now day c }
 {
-    let exposure = valuer.exposure(day);
-    let mut prices = [None; 8];
-    for class in 0..8u8 {
-        prices[class as usize] = valuer.price(day, class);
-    }
     Row {
         day,
-        exposure,
-        prices,
+        exposure: valuer.exposure(day),
+        prices: array::from_fn(|class| valuer.price(day, class as u8)),
     }
 }

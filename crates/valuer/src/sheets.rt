@@ -23,12 +23,7 @@ impl<'a> Sheet<'a> {
     fn row_of(&self, day: u32) -> Option<Row>
         ensures { result ≡ row_in self.now.rows.now day }
     {
-        for row in self.rows {
-            if row.day == day {
-                return Some(*row);
-            }
-        }
-        None
+        self.rows.iter().copied().find(|row| row.day == day)
     }
 }
 
@@ -38,16 +33,11 @@ impl Valuer for Sheet<'_> {
     ghost prices = { λ s day class. price_of (row_in s.rows.now day) class };
 
     fn exposure(&self, day: u32) -> Option<i64> {
-        match self.row_of(day) {
-            Some(row) => row.exposure,
-            None => None,
-        }
+        self.row_of(day)?.exposure
     }
 
     fn price(&self, day: u32, class: u8) -> Option<u32> {
-        match self.row_of(day) {
-            Some(row) if class < 8 => row.prices[class as usize],
-            _ => None,
-        }
+        let row = self.row_of(day)?;
+        *row.prices.get(usize::from(class))?
     }
 }

@@ -3,18 +3,15 @@
 #![tactic(auto)]
 
 mod cases;
+mod failure;
 
 use cases::answer;
 use std::io::{BufRead, BufReader};
 
-fn run(rt: &HostRuntime) -> anyhow::Result<()> {
+fn main(rt: HostRuntime) -> anyhow::Result<()> {
     for line in BufReader::new(rt.alloc(), rt.stdin())?.lines(rt.alloc()) {
         let line = line?;
         rt.println(answer(rt.alloc(), line.as_str())?)?;
     }
     Ok(())
-}
-
-fn main(rt: HostRuntime) -> anyhow::Result<()> {
-    run(&rt)
 }

@@ -1,288 +1,203 @@
 //! One line: a command, what it answers, and both books after it.
-use crate::books::{Books, Step};
-use crate::words::{byte, exposure, lot, lot_of, message, row, small, state_of, terms, words_of};
-use amounts::{Notice, Place};
+use crate::failure::Failure;
+use crate::messages::{InWords, message};
+use crate::told::told;
+use amounts::Lot;
+use annex::{Annex, Row};
+use exchange::Exchange;
+use message::Message;
+use pledgor::PledgorBook;
 use refusal::Refusal;
+use secured::SecuredBook;
 use std::alloc::{AllocError, Global};
-use std::str::SplitWhitespace;
+use valuer::Sheet;
+use words::Words;
 
-fn malformed(heap: Global) -> Result<String, AllocError> {
-    format!(in heap; "malformed")
+// Books of the terms and the lots that the words give.
+fn opened(heap: Global, words: &mut Words<'_>) -> Result<Exchange, Failure> {
+    let terms = words.terms().ok_or(Failure::Malformed)?;
+    let count = words.number::<u32>().ok_or(Failure::Malformed)?;
+    let lots: Vec<Lot> = (0..count)
+        .map(|_| words.lot().ok_or(Failure::Malformed))
+        .try_collect(heap)?;
+    Ok(Exchange::open(heap, Annex::open(terms)?, lots.as_slice())?)
 }
 
-fn refused(heap: Global, refusal: Refusal) -> Result<String, AllocError> {
-    let number = refusal.number();
-    format!(in heap; "refused {number}")
+// Issues what the secured book drafted. The ends of an exchange can be lent apart only out of a parameter.
+fn by_secured(
+    books: &mut Exchange,
+    drafted: Result<(Message, SecuredBook), Refusal>,
+) -> Result<Message, Failure> {
+    Ok(books.secured.issue(drafted, &mut books.pledgor)?)
 }
 
-fn told_step(heap: Global, step: Step) -> Result<String, AllocError> {
-    match step {
-        Step::Issued(message) => {
-            let words = words_of(heap, &message)?;
-            format!(in heap; "issued {words}")
-        }
-        Step::Booked(message) => {
-            let words = words_of(heap, &message)?;
-            format!(in heap; "booked {words}")
-        }
-        Step::Misfit(message) => {
-            let words = words_of(heap, &message)?;
-            format!(in heap; "misfit {words}")
-        }
-        Step::Refused(refusal) => refused(heap, refusal),
-        Step::Nothing => format!(in heap; "nothing"),
+// Issues what the pledgor's book drafted.
+fn by_pledgor(
+    books: &mut Exchange,
+    drafted: Result<(Message, PledgorBook), Refusal>,
+) -> Result<Message, Failure> {
+    Ok(books.pledgor.issue(drafted, &mut books.secured)?)
+}
+
+// The words of a line that are still to be taken, the books that it is for, and where its answer is built.
+#[derive(Drop)]
+struct Line<'a, 'b> {
+    heap: Global,
+    books: &'b mut Exchange,
+    words: Words<'a>,
+}
+
+impl<'a, 'b> Line<'a, 'b> {
+    // What comes next, which has to be there; each program of cases has failures of its own.
+    fn take<T: Drop, F: Fn(&mut Words<'a>) -> Option<T>>(&mut self, read: F) -> Result<T, Failure>
+        requires { F.IsAlwaysCallable read }
+    {
+        read(&mut self.words).ok_or(Failure::Malformed)
     }
-}
 
-// The lots of the secured end that are not absent.
-fn secured_lots(heap: Global, books: &Books) -> Result<String, AllocError> {
-    let mut text = String::new(heap);
-    for number in 0..32u8 {
-        if let Some((state, lot)) = lot_of(books.secured.lot(number)) {
-            if text.len() > 0 {
-                text.push_str(",")?;
-            }
-            let class = lot.class;
-            let face = lot.face;
-            text.push_str(format!(in heap; "{number}:{state}:{class}:{face}")?.as_str())?;
-        }
+    fn weigh(&mut self) -> Result<String, Failure> {
+        let row = self.take(Words::row)?;
+        let finding = self.books.secured.book.weigh(&row)?;
+        let day = finding.day();
+        let notice = finding.notice();
+        finding.set_aside();
+        Ok(format!(in self.heap; "finding {day} {notice}")?)
     }
-    if text.len() == 0 {
-        text.push_str("-")?;
-    }
-    Ok(text)
-}
 
-// The places of the pledgor's own lots, a letter each.
-fn pledgor_lots(heap: Global, books: &Books, count: u8) -> Result<String, AllocError> {
-    let mut text = String::new(heap);
-    for number in 0..count {
-        let letter = match books.pledgor.lot(number).place {
-            Place::Home => "h",
-            Place::Posted => "p",
-            Place::Asked => "a",
+    // Books a message that no book issued.
+    fn inject(&mut self) -> Result<String, Failure> {
+        let end = self.words.next();
+        let message = self.take(message)?;
+        let fits = match end {
+            Some("secured") => self.books.secured.book.book(message),
+            Some("pledgor") => self.books.pledgor.book.book(message),
+            _ => return Err(Failure::Malformed),
         };
-        text.push_str(letter)?;
+        Ok(format!(in self.heap; "{}", if fits { "booked" } else { "misfit" })?)
     }
-    if text.len() == 0 {
-        text.push_str("-")?;
+
+    // Books the oldest message under way to an end.
+    fn book(&mut self) -> Result<Message, Failure> {
+        match self.words.next() {
+            Some("secured") => Ok(self.books.secured.book_next()?),
+            Some("pledgor") => Ok(self.books.pledgor.book_next()?),
+            _ => Err(Failure::Malformed),
+        }
     }
-    Ok(text)
-}
 
-fn told_books(heap: Global, books: &Books) -> Result<String, AllocError> {
-    let day = books.secured.day();
-    let state = state_of(day.state);
-    let number = day.number;
-    let amount = day.amount;
-    let delivered = books.secured.delivered();
-    let freed = books.secured.freed();
-    let v = books.secured.value();
-    let uncovered = books.secured.uncovered();
-    let lots = secured_lots(heap, books)?;
-    let mut text = format!(in heap;
-        "secured {state} {number} {amount} delivered {delivered} freed {freed} v {v} uncovered {uncovered} lots {lots}"
-    )?;
-    let day = books.pledgor.day();
-    let state = state_of(day.state);
-    let number = day.number;
-    let amount = day.amount;
-    let lots = pledgor_lots(heap, books, books.pledgor.count())?;
-    text.push_str(format!(in heap; " pledgor {state} {number} {amount} lots {lots}")?.as_str())?;
-    Ok(text)
-}
+    // Weighs one row, and notifies what it came to with another.
+    fn notify(&mut self) -> Result<Message, Failure> {
+        let weighed = self.take(Words::row)?;
+        let row = self.take(Words::row)?;
+        let finding = self.books.secured.book.weigh(&weighed)?;
+        let drafted = self.books.secured.book.notify(finding, &row);
+        by_secured(self.books, drafted)
+    }
 
-fn opened(
-    heap: Global,
-    words: &mut SplitWhitespace<'_>,
-) -> Result<Option<Result<Books, Refusal>>, AllocError> {
-    let Some(terms) = terms(words) else {
-        return Ok(None);
-    };
-    let Some(count) = small(words) else {
-        return Ok(None);
-    };
-    let mut lots = Vec::new(heap);
-    for _ in 0..count {
-        let Some(lot) = lot(words) else {
-            return Ok(None);
+    // Resolves by a sheet of one row, which has no prices.
+    fn resolve(&mut self) -> Result<Message, Failure> {
+        let row = Row {
+            day: self.take(Words::number::<u32>)?,
+            exposure: self.take(Words::optional::<i64>)?,
+            prices: [None; 8],
         };
-        lots.push(lot)?;
+        let drafted = self.books.secured.book.resolve(&Sheet::new(&[row]));
+        by_secured(self.books, drafted)
     }
-    Ok(Some(Books::open(heap, terms, lots.as_slice())))
-}
 
-fn weigh(
-    heap: Global,
-    books: &Books,
-    words: &mut SplitWhitespace<'_>,
-) -> Result<String, AllocError> {
-    let Some(row) = row(words) else {
-        return malformed(heap);
-    };
-    match books.secured.weigh(&row) {
-        Err(refusal) => refused(heap, refusal),
-        Ok(finding) => {
-            let day = finding.day();
-            let notice = finding.notice();
-            finding.set_aside();
-            match notice {
-                Notice::Quiet => format!(in heap; "finding {day} quiet"),
-                Notice::Call { amount } => format!(in heap; "finding {day} call {amount}"),
-                Notice::Offer { amount } => format!(in heap; "finding {day} offer {amount}"),
-            }
-        }
+    fn confirm(&mut self) -> Result<Message, Failure> {
+        let drafted = self.books.secured.book.confirm();
+        by_secured(self.books, drafted)
     }
-}
 
-fn inject(
-    heap: Global,
-    books: &mut Books,
-    words: &mut SplitWhitespace<'_>,
-) -> Result<String, AllocError> {
-    let end = words.next();
-    let Some(message) = message(words) else {
-        return malformed(heap);
-    };
-    let fits = match end {
-        Some("secured") => books.secured.book(message),
-        Some("pledgor") => books.pledgor.book(message),
-        _ => return malformed(heap),
-    };
-    if fits {
-        format!(in heap; "booked")
-    } else {
-        format!(in heap; "misfit")
+    fn reply(&mut self) -> Result<Message, Failure> {
+        let lot = self.take(Words::number::<u8>)?;
+        let drafted = self.books.secured.book.reply(lot);
+        by_secured(self.books, drafted)
     }
-}
 
-// A call of the secured end.
-fn secured(
-    books: &mut Books,
-    command: &str,
-    words: &mut SplitWhitespace<'_>,
-) -> Result<Option<Step>, AllocError> {
-    match command {
-        "notify" => {
-            let Some(weighed) = row(words) else {
-                return Ok(None);
-            };
-            let Some(again) = row(words) else {
-                return Ok(None);
-            };
-            Ok(Some(books.notify(&weighed, &again)?))
-        }
-        "resolve" => {
-            let Some(day) = small(words) else {
-                return Ok(None);
-            };
-            let Some(exposure) = exposure(words) else {
-                return Ok(None);
-            };
-            Ok(Some(books.resolve(day, exposure)?))
-        }
-        "confirm" => Ok(Some(books.confirm()?)),
-        "reply" => {
-            let Some(lot) = byte(words) else {
-                return Ok(None);
-            };
-            Ok(Some(books.reply(lot)?))
-        }
-        _ => Ok(None),
+    fn answer(&mut self) -> Result<Message, Failure> {
+        let row = self.take(Words::row)?;
+        let drafted = self.books.pledgor.book.answer(&row);
+        by_pledgor(self.books, drafted)
+    }
+
+    // A call of the pledgor end about one of its lots.
+    fn move_lot<F: Fn(&PledgorBook, u8) -> Result<(Message, PledgorBook), Refusal>>(
+        &mut self,
+        call: F,
+    ) -> Result<Message, Failure>
+        requires { F.IsAlwaysCallable call }
+    {
+        let lot = self.take(Words::number::<u8>)?;
+        let drafted = call(&self.books.pledgor.book, lot);
+        by_pledgor(self.books, drafted)
+    }
+
+    fn substitute(&mut self) -> Result<Message, Failure> {
+        let new = self.take(Words::number::<u8>)?;
+        let old = self.take(Words::number::<u8>)?;
+        let drafted = self.books.pledgor.book.substitute(new, old);
+        by_pledgor(self.books, drafted)
+    }
+
+    fn release(&mut self) -> Result<Message, Failure> {
+        let drafted = self.books.pledgor.book.release();
+        by_pledgor(self.books, drafted)
+    }
+
+    // The command is what `run_line` did not take itself: opening and a blank line print no books.
+    fn answered(&mut self, command: &str) -> Result<String, Failure> {
+        let (told, message) = match command {
+            "weigh" => return self.weigh(),
+            "inject" => return self.inject(),
+            "book" => ("booked", self.book()?),
+            "notify" => ("issued", self.notify()?),
+            "resolve" => ("issued", self.resolve()?),
+            "confirm" => ("issued", self.confirm()?),
+            "reply" => ("issued", self.reply()?),
+            "answer" => ("issued", self.answer()?),
+            "deliver" => ("issued", self.move_lot(PledgorBook::deliver)?),
+            "ask" => ("issued", self.move_lot(PledgorBook::ask)?),
+            "substitute" => ("issued", self.substitute()?),
+            "release" => ("issued", self.release()?),
+            _ => return Err(Failure::Malformed),
+        };
+        Ok(format!(in self.heap; "{told} {}", InWords(message))?)
     }
 }
 
-// A call of the pledgor end.
-fn pledgor(
-    books: &mut Books,
-    command: &str,
-    words: &mut SplitWhitespace<'_>,
-) -> Result<Option<Step>, AllocError> {
-    let drafted = match command {
-        "answer" => {
-            let Some(own) = row(words) else {
-                return Ok(None);
-            };
-            books.pledgor.answer(&own)
-        }
-        "release" => books.pledgor.release(),
-        "substitute" => {
-            let Some(new) = byte(words) else {
-                return Ok(None);
-            };
-            let Some(old) = byte(words) else {
-                return Ok(None);
-            };
-            books.pledgor.substitute(new, old)
-        }
-        _ => {
-            let Some(lot) = byte(words) else {
-                return Ok(None);
-            };
-            match command {
-                "deliver" => books.pledgor.deliver(lot),
-                "ask" => books.pledgor.ask(lot),
-                _ => return Ok(None),
-            }
-        }
-    };
-    Ok(Some(books.take_pledgor(drafted)?))
-}
-
-fn booking(books: &mut Books, words: &mut SplitWhitespace<'_>) -> Option<Step> {
-    match words.next()? {
-        "secured" => Some(books.book_secured()),
-        "pledgor" => Some(books.book_pledgor()),
-        _ => None,
-    }
-}
-
-fn step(
-    heap: Global,
-    books: &mut Books,
-    command: &str,
-    words: &mut SplitWhitespace<'_>,
-) -> Result<String, AllocError> {
-    let made = match command {
-        "weigh" => return weigh(heap, books, words),
-        "inject" => return inject(heap, books, words),
-        "book" => booking(books, words),
-        "notify" | "resolve" | "confirm" | "reply" => secured(books, command, words)?,
-        _ => pledgor(books, command, words)?,
-    };
-    match made {
-        Some(step) => told_step(heap, step),
-        None => malformed(heap),
+// What is told of a line, whether it has a value or none.
+fn worded(heap: Global, answer: Result<String, Failure>) -> Result<String, AllocError> {
+    match answer {
+        Ok(text) => Ok(text),
+        Err(Failure::Memory(error)) => Err(error),
+        Err(failure) => format!(in heap; "{failure}"),
     }
 }
 
 /// Runs a line on the books that the last `open` line opened.
 pub(crate) fn run_line(
     heap: Global,
-    books: &mut Option<Books>,
+    books: &mut Option<Exchange>,
     line: &str,
 ) -> Result<String, AllocError> {
-    let mut words = line.split_whitespace();
-    let Some(command) = words.next() else {
-        return malformed(heap);
-    };
-    if command == "open" {
-        return match opened(heap, &mut words)? {
-            None => malformed(heap),
-            Some(Err(refusal)) => refused(heap, refusal),
-            Some(Ok(fresh)) => {
-                let told = told_books(heap, &fresh)?;
+    let mut words = Words::new(line);
+    match (words.next(), &mut *books) {
+        (Some("open"), books) => match opened(heap, &mut words) {
+            Ok(fresh) => {
+                let told = told(heap, &fresh)?;
                 *books = Some(fresh);
                 format!(in heap; "opened | {told}")
             }
-        };
-    }
-    match books {
-        None => malformed(heap),
-        Some(books) => {
-            let answer = step(heap, books, command, &mut words)?;
-            let told = told_books(heap, books)?;
+            Err(failure) => worded(heap, Err(failure)),
+        },
+        (Some(command), Some(books)) => {
+            let mut line = Line { heap, books, words };
+            let answer = worded(heap, line.answered(command))?;
+            let told = told(heap, line.books)?;
             format!(in heap; "{answer} | {told}")
         }
+        _ => worded(heap, Err(Failure::Malformed)),
     }
 }

@@ -2,15 +2,15 @@
 //! and both books whole. The cases and what they should give come from tools/books_cases.py.
 #![tactic(auto)]
 
-mod books;
 mod commands;
-mod words;
+mod failure;
+mod messages;
+mod told;
 
-use books::Books;
 use commands::run_line;
 use std::io::{BufRead, BufReader};
 
-fn run(rt: &HostRuntime) -> anyhow::Result<()> {
+fn main(rt: HostRuntime) -> anyhow::Result<()> {
     let mut books = None;
     for line in BufReader::new(rt.alloc(), rt.stdin())?.lines(rt.alloc()) {
         let line = line?;
@@ -18,8 +18,4 @@ fn run(rt: &HostRuntime) -> anyhow::Result<()> {
         rt.println(answer)?;
     }
     Ok(())
-}
-
-fn main(rt: HostRuntime) -> anyhow::Result<()> {
-    run(&rt)
 }

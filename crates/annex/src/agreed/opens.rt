@@ -1,44 +1,33 @@
 //! Opening an annex on terms.
 ghost use Rattle.std.specs.Prelude.{◌≡◌, true, false, MatchResult};
-ghost use Rattle.annex.specs.Every.{every};
-ghost use Rattle.annex.specs.Terms.{percentage_fits, terms_fit, within as Within};
+ghost use Rattle.std.specs.List.{list_all};
+ghost use Rattle.annex.specs.Terms.{percentage_fits, terms_fit};
 ghost use Rattle.refusal.specs.declared.Refusal.TheVariants.{Opening};
 
 use crate::agreed::Annex;
-use crate::terms::Terms;
+use crate::terms::{CLASSES, PAR, Terms};
 use refusal::Refusal;
 
-fn within(low: u64, high: u64, n: u64) -> bool
-    ensures { result ≡ Within low high n }
-{
-    low <= n && n <= high
-}
+const LARGEST_THRESHOLD: u64 = 10_000_000_000_000;
 
-fn percentage_fits(percentage: u32) -> bool
-    ensures { result ≡ percentage_fits percentage }
-{
-    percentage <= 10_000
-}
+const LARGEST_MINIMUM: u64 = 1_000_000_000_000;
 
-fn percentages_fit(percentages: &[u32; 8]) -> bool
-    ensures { result ≡ every percentage_fits percentages.now }
+const LARGEST_INDEPENDENT: u64 = 1_000_000_000_000;
+
+fn percentages_fit(percentages: &[u32; CLASSES]) -> bool
+    ensures { result ≡ list_all percentage_fits percentages.now }
 {
-    for percentage in percentages {
-        if !percentage_fits(*percentage) {
-            return false;
-        }
-    }
-    true
+    percentages.iter().all(|percentage| *percentage <= PAR)
 }
 
 fn terms_fit(terms: &Terms) -> bool
     ensures { result ≡ terms_fit terms.now }
 {
-    terms.threshold <= 10_000_000_000_000
-        && within(1, 1_000_000_000_000, terms.pledgor_minimum)
-        && within(1, 1_000_000_000_000, terms.secured_minimum)
-        && terms.pledgor_independent <= 1_000_000_000_000
-        && terms.secured_independent <= 1_000_000_000_000
+    terms.threshold <= LARGEST_THRESHOLD
+        && (1..=LARGEST_MINIMUM).contains(&terms.pledgor_minimum)
+        && (1..=LARGEST_MINIMUM).contains(&terms.secured_minimum)
+        && terms.pledgor_independent <= LARGEST_INDEPENDENT
+        && terms.secured_independent <= LARGEST_INDEPENDENT
         && percentages_fit(&terms.percentages)
 }
 

@@ -1,6 +1,6 @@
 //! The calls of a link.
 ghost use Rattle.std.specs.Prelude.{◌≡◌, ◌≤◌};
-ghost use Rattle.link.specs.Kept.{admits, admitted, advances, advanced, clears, cleared_by, forgotten, judges, kept, next_of, oldest_of, opened, WritesOffer};
+ghost use Rattle.link.specs.Kept.{admits, admitted, advances, advanced, clears, cleared_by, forgotten, judges, kept, next_of, opened, WritesOffer};
 
 use crate::state::{LinkState, Standing, WINDOW};
 use crate::table::Link;
@@ -8,6 +8,7 @@ use frame::layout::LAST_NUMBER;
 use frame::write::{write_acknowledgement, write_data};
 use message::Message;
 use refusal::Refusal;
+use std::cmp::Ordering;
 
 impl Link {
     /// A link over which nothing has gone.
@@ -28,31 +29,28 @@ impl Link {
     pub fn lowest(&self) -> u64
         ensures { result ≡ (kept self.now.state).base }
     {
-        let LinkState { base, .. } = self.state;
-        base
+        self.state.base
     }
 
     /// The number that the next message is given.
     pub fn next(&self) -> u64
         ensures { result ≡ next_of (kept self.now.state) }
     {
-        self.state.base + self.state.count as u64
+        self.lowest() + self.state.count as u64
     }
 
     /// The number that the other end's next message has.
     pub fn expected(&self) -> u64
         ensures { result ≡ (kept self.now.state).expected }
     {
-        let LinkState { expected, .. } = self.state;
-        expected
+        self.state.expected
     }
 
     /// The unacknowledged messages, numbered from the lowest on.
     pub fn unacknowledged(&self) -> &[Message]
         ensures { result.now ≡ (kept self.now.state).pending }
     {
-        let count = self.state.count;
-        &self.state.table[0..count]
+        &self.state.table[..self.state.count]
     }
 
     /// Keeps a message under the next number, and tells the number. Refused by 3 for a message that
@@ -61,7 +59,7 @@ impl Link {
         ensures answer { result ≡ admits (kept self.old.state) message }
         ensures after { kept self.new.state ≡ admitted (kept self.old.state) message }
     {
-        let next = self.state.base + self.state.count as u64;
+        let next = self.next();
         if let Some(position) = message.unfit() {
             return Err(Refusal::Body {
                 message: next,
@@ -79,31 +77,39 @@ impl Link {
         Ok(next)
     }
 
+    // Refused by 4 for an acknowledgement above the next number.
+    fn check(&self, number: u64, acknowledgement: u64) -> Result<(), Refusal>
+        ensures { result ≡ clears (kept self.now.state) number acknowledgement }
+    {
+        if acknowledgement > self.next() {
+            return Err(Refusal::Acknowledgement { message: number });
+        }
+        Ok(())
+    }
+
     /// What a message with this number is to the link. Refused by 4 for an acknowledgement above the
     /// next number.
     pub fn judge(&self, number: u64, acknowledgement: u64) -> Result<Standing, Refusal>
         ensures { result ≡ judges (kept self.now.state) number acknowledgement }
     {
-        if acknowledgement > self.state.base + self.state.count as u64 {
-            return Err(Refusal::Acknowledgement { message: number });
-        }
-        if number == self.state.expected {
-            Ok(Standing::Expected)
-        } else if number < self.state.expected {
-            Ok(Standing::Repeat)
-        } else {
-            Ok(Standing::Early)
-        }
+        self.check(number, acknowledgement)?;
+        Ok(match number.cmp(&self.expected()) {
+            Ordering::Less => Standing::Repeat,
+            Ordering::Equal => Standing::Expected,
+            Ordering::Greater => Standing::Early,
+        })
     }
 
     // Forgets the first messages, so many of them.
+    #[tactic(auto, using(crate::proofs::Tables::turned))]
     fn forget(&mut self, gone: usize)
         requires { gone ≤ self.old.state.count }
         ensures { kept self.new.state ≡ forgotten gone (kept self.old.state) }
     {
-        self.state.table.rotate_left(gone);
-        self.state.count -= gone;
-        self.state.base += gone as u64;
+        let state = &mut self.state;
+        state.table.rotate_left(gone);
+        state.count -= gone;
+        state.base += gone as u64;
     }
 
     /// Forgets every message with a number below the acknowledgement that the message `number`
@@ -112,35 +118,24 @@ impl Link {
         ensures answer { result ≡ clears (kept self.old.state) number acknowledgement }
         ensures after { kept self.new.state ≡ cleared_by (kept self.old.state) acknowledgement }
     {
-        if acknowledgement > self.state.base + self.state.count as u64 {
-            return Err(Refusal::Acknowledgement { message: number });
-        }
-        let gone = acknowledgement.saturating_sub(self.state.base) as usize;
-        self.forget(gone);
+        self.check(number, acknowledgement)?;
+        self.forget(acknowledgement.saturating_sub(self.lowest()) as usize);
         Ok(())
     }
 
     /// Notes that the message with this number is booked, and tells whether it was the expected one;
     /// if not, nothing changes.
+    // A bool, as of a set's `insert`: whether the call changed anything.
     pub fn advance(&mut self, number: u64) -> bool
         ensures answer { result ≡ advances (kept self.old.state) number }
         ensures after { kept self.new.state ≡ advanced (kept self.old.state) number }
     {
-        let is_next = number == self.state.expected && number <= LAST_NUMBER;
+        let state = &mut self.state;
+        let is_next = number == state.expected && number <= LAST_NUMBER;
         if is_next {
-            self.state.expected += 1;
+            state.expected += 1;
         }
         is_next
-    }
-
-    // The oldest unacknowledged message.
-    fn oldest(&self) -> Option<Message>
-        ensures { result ≡ oldest_of (kept self.now.state).pending }
-    {
-        if self.state.count == 0 {
-            return None;
-        }
-        Some(self.state.table[0])
     }
 
     /// Writes the frame to post into the buffer's front, and tells its length: the oldest
@@ -149,9 +144,9 @@ impl Link {
     pub fn write(&self, buffer: &mut [u8]) -> Result<usize, Refusal>
         ensures { WritesOffer (kept self.now.state) buffer.old buffer.new result }
     {
-        match self.oldest() {
-            Some(message) => write_data(buffer, self.state.base, self.state.expected, &message),
-            None => write_acknowledgement(buffer, self.state.expected),
+        match self.unacknowledged() {
+            [oldest, ..] => write_data(buffer, self.lowest(), self.expected(), oldest),
+            [] => write_acknowledgement(buffer, self.expected()),
         }
     }
 }

@@ -1,88 +1,48 @@
-//! Frames into the line, and out of it.
-ghost use Rattle.std.specs.Prelude.{◌≡◌, ◌+◌, ◌-◌, ◌<◌, ◌≤◌, [], ◌∷◌, ◌++◌, length, take, slice_index_or};
-ghost use Rattle.std.specs.List.{remove};
-ghost use Rattle.scripted.specs.Lines.{line_items};
+//! What the entries of a script do to a waiting line.
+ghost use Rattle.std.specs.Prelude.{◌≡◌};
+ghost use Rattle.scripted.specs.Script.{acted, play as plays};
 
+use crate::fault::Fault;
 use crate::line::Line;
-use carrier::Frame;
+use crate::script::Entry;
 
 impl Line {
-    // A line in which nothing waits.
-    pub(crate) fn empty() -> Line
-        ensures items { line_items result ≡ [] }
-        ensures len { result.len ≡ 0 }
+    // Does what the entry says; nothing where no frame stands at its position.
+    fn act(&mut self, entry: Entry)
+        ensures frames { self.new.frames.items ≡ acted self.old.places entry self.old.frames.items }
+        ensures places { self.new.places ≡ self.old.places }
     {
-        let blank = blank();
-        Line {
-            slots: [blank; 16],
-            len: 0,
+        let at = entry.position;
+        if at >= self.frames.len() {
+            return;
+        }
+        match entry.fault {
+            Fault::Lose => {
+                self.frames.remove(at);
+            }
+            Fault::Repeat => {
+                if self.frames.len() < self.places {
+                    let frame = self.frames[at];
+                    self.frames.push(frame);
+                }
+            }
+            Fault::Move => {
+                let frame = self.frames.remove(at);
+                self.frames.push(frame);
+            }
         }
     }
 
-    pub(crate) fn len(&self) -> usize
-        ensures { result ≡ self.now.len }
+    // Lets the entries of a call act, in the script's order.
+    pub(crate) fn play(&mut self, script: &[Entry], count: u32)
+        ensures frames { self.new.frames.items ≡ plays self.old.places count script.now self.old.frames.items }
+        ensures places { self.new.places ≡ self.old.places }
     {
-        self.len
+        // A test in the loop: over a filter the proof would need what a fold over a filtered list is.
+        for entry in script {
+            if entry.count == count {
+                self.act(*entry);
+            }
+        }
     }
-
-    // The frames, first to leave first.
-    pub(crate) fn frames(&self) -> &[Frame]
-        ensures { result.now ≡ line_items self.now }
-    {
-        let len = self.len;
-        &self.slots[0..len]
-    }
-
-    // The frame at a position.
-    pub(crate) fn at(&self, at: usize) -> Frame
-        requires { at < self.now.len }
-        ensures { result ≡ slice_index_or (line_items self.now) at result }
-    {
-        self.slots[at]
-    }
-
-    // A frame joins the end.
-    pub(crate) fn push(&mut self, frame: Frame)
-        requires { self.old.len < 16 }
-        ensures items { line_items self.new ≡ line_items self.old ++ (frame ∷ []) }
-        ensures len { self.new.len ≡ self.old.len + 1 }
-    {
-        let len = self.len;
-        self.slots[len] = frame;
-        self.len = len + 1;
-    }
-
-    // The frame at a position leaves.
-    pub(crate) fn remove(&mut self, at: usize) -> Frame
-        requires { at < self.old.len }
-        ensures value { result ≡ slice_index_or (line_items self.old) at result }
-        ensures items { line_items self.new ≡ remove (line_items self.old) at }
-        ensures len { self.new.len + 1 ≡ self.old.len }
-    {
-        let len = self.len;
-        let frame = take_out(&mut self.slots, len, at);
-        self.len = len - 1;
-        frame
-    }
-}
-
-// What stands in an unused slot.
-fn blank() -> Frame {
-    match Frame::of(&[0]) {
-        Ok(frame) => frame,
-        Err(_) => unreachable(),
-    }
-}
-
-// Takes an element out of the first `count`, and closes the gap.
-fn take_out(slots: &mut [Frame], count: usize, at: usize) -> Frame
-    requires within { at < count }
-    requires few { count ≤ length slots.old }
-    ensures value { result ≡ slice_index_or slots.old at result }
-    ensures items { take (count - 1) slots.new ≡ remove (take count slots.old) at }
-    ensures len { length slots.new ≡ length slots.old }
-{
-    let frame = slots[at];
-    slots[at..count].rotate_left(1);
-    frame
 }

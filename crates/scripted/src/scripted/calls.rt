@@ -1,35 +1,25 @@
 //! Posting to a scripted carrier and collecting from it.
+ghost use Rattle.std.specs.Prelude.{◌≡◌};
 ghost use Rattle.carrier.specs.Means.{Means};
 ghost use Rattle.carrier.specs.Rules.{Collected, Posted};
-ghost use Rattle.scripted.specs.ScriptedMeans.{CollectedByScript, FirstTaken, PostedByScript, scripted_sound, scripted_means, state_of, Struck};
+ghost use Rattle.scripted.specs.ScriptedMeans.{CollectedByScript, PostedByScript, scripted_sound, scripted_means, state_of};
+ghost use Rattle.scripted.specs.State.{counted};
 
-use crate::script::{LAST_COUNT, has_room, play};
+use crate::script::LAST_COUNT;
 use crate::scripted::Scripted;
 use carrier::{Carrier, Frame, LONGEST_FRAME};
 use refusal::Refusal;
 
 impl Scripted {
     // Counts a call, and lets its entries act; after the last count no entry acts.
+    #[tactic(auto, using(crate::proofs::Strikes::struck))]
     fn strike(&mut self)
-        ensures { Struck self.old self.new }
+        ensures { state_of self.new ≡ counted (state_of self.old) (state_of self.old).waiting }
     {
         if self.count < LAST_COUNT {
-            let count = self.count + 1;
-            let places = self.places;
-            self.count = count;
-            play(&mut self.waiting, places, self.script.as_slice(), count);
+            self.count += 1;
+            self.waiting.play(self.script.as_slice(), self.count);
         }
-    }
-
-    // Takes the first frame that waits, if any does.
-    fn take_first(&mut self) -> Option<Frame>
-        ensures { FirstTaken self.old result self.new }
-    {
-        if self.waiting.len() == 0 {
-            return None;
-        }
-        let frame = self.waiting.remove(0);
-        Some(frame)
     }
 }
 
@@ -42,11 +32,11 @@ impl Carrier for Scripted {
         ensures rule { Posted (scripted_means self.old) frame.now result (scripted_means self.new) }
         ensures exact { PostedByScript (state_of self.old) frame.now result (state_of self.new) }
     {
-        let frame = Frame::of(frame)?;
-        if !has_room(&self.waiting, self.places) {
+        let frame = Frame::try_from(frame)?;
+        if self.waiting.frames.len() >= self.waiting.places {
             return Err(Refusal::CarrierFull);
         }
-        self.waiting.push(frame);
+        self.waiting.frames.push(frame);
         self.strike();
         Ok(())
     }
@@ -59,9 +49,9 @@ impl Carrier for Scripted {
             return Err(Refusal::SmallBuffer);
         }
         self.strike();
-        match self.take_first() {
-            None => Ok(None),
-            Some(frame) => Ok(Some(frame.fill(buffer)?)),
-        }
+        let Some(frame) = self.waiting.frames.pop_at(0) else {
+            return Ok(None);
+        };
+        Ok(Some(frame.fill(buffer)?))
     }
 }

@@ -4,7 +4,7 @@ ghost use Rattle.carrier.specs.Held.{held};
 ghost use Rattle.scripted.specs.Script.{used};
 ghost use Rattle.scripted.specs.ScriptedMeans.{scripted_means, state_of};
 
-use crate::script::{Entry, unused};
+use crate::script::Entry;
 use crate::scripted::Scripted;
 use carrier::Frame;
 
@@ -13,21 +13,24 @@ impl Scripted {
     pub fn places(&self) -> usize
         ensures { result ≡ (scripted_means self.now).places }
     {
-        self.places
+        self.waiting.places
     }
 
     /// How many entries of the script are still unused.
     pub fn faults(&self) -> usize
         ensures { result ≡ (scripted_means self.now).faults }
     {
-        unused(self.script.as_slice(), self.count)
+        self.script
+            .iter()
+            .filter(|entry| !self.has_used(entry))
+            .count()
     }
 
     /// The frames that wait, first to leave first.
     pub fn waiting(&self) -> &[Frame]
         ensures { map held result.now ≡ (scripted_means self.now).waiting }
     {
-        self.waiting.frames()
+        self.waiting.frames.as_slice()
     }
 
     /// The whole script.

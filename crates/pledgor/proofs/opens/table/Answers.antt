@@ -1,8 +1,8 @@
 use Rattle.std.proofs.Common.{◌≡◌, ◌-◌, ◌<◌, ◌++◌, map, length, drop, set, replicate, ap, ◌∙◌, add-one, arith}
-use Rattle.std.proofs.lemmas.List.{take_all}
+use Rattle.std.proofs.lemmas.List.{drop-replicate, take_all}
 use Rattle.pledgor.specs.Lots.{no_lot}
 use Rattle.pledgor.specs.Opening.{at_home}
-use Rattle.pledgor.proofs.Tables.{drop_replicate, fill_more}
+use Rattle.pledgor.proofs.Tables.{fill_more}
 use Rattle.pledgor.proofs.opens.table.Goals as goal
 
 pub loop-at-preserved : goal.loop-at-preserved
@@ -18,4 +18,4 @@ returns c =
     let i = c.loop-at.at in
     let xs = c.args.lots.now in
     let e : i ≡ length xs = omega arith in
-    c.loop-at.invariant ∙ ap (λ ys. map at_home ys ++ drop i (replicate 32 no_lot)) (take_all i xs (omega arith)) ∙ ap (λ ys. map at_home xs ++ ys) (drop_replicate i 32 no_lot ∙ ap (λ k. replicate (32 - k) no_lot) e)
+    c.loop-at.invariant ∙ ap (λ ys. map at_home ys ++ drop i (replicate 32 no_lot)) (take_all i xs (omega arith)) ∙ ap (λ ys. map at_home xs ++ ys) (drop-replicate i 32 no_lot ∙ ap (λ k. replicate (32 - k) no_lot) e)

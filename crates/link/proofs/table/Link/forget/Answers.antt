@@ -1,23 +1,12 @@
-use Rattle.std.proofs.Common.{◌∙◌, arith}
-use Rattle.link.proofs.Tables.{fit_clear, forgotten_is}
+use Rattle.std.proofs.Common.{arith}
+use Rattle.std.proofs.lemmas.List.{length-take-le}
+use Rattle.link.specs.Kept.{kept}
+use Rattle.link.proofs.Ranges.{ranged_forget}
+use Rattle.link.proofs.Tables.{turned}
 use Rattle.link.proofs.table.Link.forget.Goals as goal
 
-pub invariant_of-self : goal.invariant_of-self
-invariant_of-self c =
+pub invariant_of-self-clause-ranged : goal.invariant_of-self-clause-ranged
+invariant_of-self-clause-ranged c =
     let s = c.args.self.now in
-    let l = s.state in
-    record {
-      whole = c.rotate_left.ensures.len ∙ s.whole;
-      room = omega arith;
-      started = omega arith;
-      ended = omega arith;
-      awaits = s.awaits;
-      bounded = s.bounded;
-      fit = fit_clear l.table c.rotate_left.new.self l.count c.args.gone s.whole s.room c.requires s.fit c.rotate_left.ensures.after;
-    }
-
-pub returns : goal.returns
-returns c =
-    let s = c.args.self.now in
-    let l = s.state in
-    forgotten_is l.base l.expected l.count c.args.gone l.table c.rotate_left.new.self s.whole s.room c.requires c.rotate_left.ensures.after
+    rw (c.rotate_left.ensures.after, turned s.state.table s.state.count c.args.gone c.requires (omega arith))
+    (ranged_forget c.args.gone (kept s.state) (omega (arith, length-take-le s.state.count s.state.table)) s.ranged)

@@ -1,5 +1,0 @@
-use Rattle.octets.proofs.Puts.{join, same_bytes}
-use Rattle.body.proofs.write.put_day_amount.Goals as goal
-
-pub returns : goal.returns
-returns c = join c.put_day-at.ensures (same_bytes c.put.ensures.0 c.u64_bytes.ensures)

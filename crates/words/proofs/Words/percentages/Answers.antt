@@ -1,0 +1,14 @@
+use Rattle.words.proofs.Runs.{all_there, at_ends, missing}
+use Rattle.words.specs.Things.{Unsigned}
+use Rattle.words.specs.Words.{Number}
+use Rattle.words.proofs.Words.percentages.Goals as goal
+
+pub returns-in_err-fill : goal.returns-in_err-fill
+returns-in_err-fill c =
+    missing _ (Number (Unsigned 32)) 8 _ _ _ _ _ c.fill.ensures c.in_err-fill.was c.from_residual.ensures
+    (λ s r t h. at_ends (Number (Unsigned 32)) _ _ _ _ _ h.shows h.leaves h.met)
+
+pub returns : goal.returns
+returns c =
+    all_there _ (Number (Unsigned 32)) 8 _ _ _ _ _ c.fill.ensures c.in_ok-fill.was
+    (λ s r t h. at_ends (Number (Unsigned 32)) _ _ _ _ _ h.shows h.leaves h.met)
