@@ -59,6 +59,7 @@ pub trait Book {
     ghost book_gives: { Self → Message → Bool → Self → Type 0 };
 
     /// Books a message of the other end and tells whether it fits; one that does not changes nothing.
+    // A bool, as the books answer: the number of a misfit is not theirs to know.
     fn book(&mut self, message: Message) -> bool
         ensures { book_gives self.old message result self.new };
 }

@@ -77,6 +77,7 @@ impl Trailer {
     }
 
     /// The position in the trailer of its first unfit field, in a frame of `len` bytes.
+    // An Option: who reads or writes makes a refusal of its own of the position.
     pub(crate) fn unfit(&self, len: usize) -> Option<usize>
         ensures { result ≡ unfit_trailer len self.now }
     {
