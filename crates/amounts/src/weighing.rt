@@ -72,6 +72,7 @@ fn decide(annex: &Annex, delivery: u64, excess: u64) -> Notice
 }
 
 /// The amounts at an exposure and a V, and what is to be notified.
+#[tactic(auto, using(crate::proofs::Balance::balanced, crate::proofs::Balance::covered))]
 pub fn amounts_of(annex: &Annex, exposure: Exposure, v: u64) -> Amounts
     ensures amounts { result ≡ amounts_of annex.now.terms exposure.hundredths v }
     ensures balanced { Balanced v result }

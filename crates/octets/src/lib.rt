@@ -6,8 +6,71 @@ ghost use Rattle.std.specs.Prelude.{◌≡◌, ℕ, ◌+◌, ◌<◌, [], ◌∷
 ghost use Rattle.std.specs.Int.{w64};
 ghost use Rattle.std.proofs.Common.{of_z};
 ghost use Rattle.octets.specs.Numbers.{bytes_of};
-ghost use Rattle.octets.specs.Puts.{Puts};
+ghost use Rattle.octets.specs.Puts.{Puts, PutsAt};
 ghost use Rattle.octets.specs.Lengths.{length_both, length_bytes_of};
+
+/// The number that two bytes write.
+pub fn be_u16(a: u8, b: u8) -> u16
+    ensures { a ∷ b ∷ [] ≡ bytes_of 2 result }
+{
+    u16::from_be_bytes([a, b])
+}
+
+/// The number that four bytes write.
+pub fn be_u32(a: u8, b: u8, c: u8, d: u8) -> u32
+    ensures { a ∷ b ∷ c ∷ d ∷ [] ≡ bytes_of 4 result }
+{
+    u32::from_be_bytes([a, b, c, d])
+}
+
+/// The two bytes of a number.
+#[tactic(auto, using(crate::proofs::Fronts::be_2))]
+pub fn u16_bytes(n: u16) -> [u8; 2]
+    ensures { result ≡ bytes_of 2 n }
+{
+    n.to_be_bytes()
+}
+
+/// The four bytes of a number.
+#[tactic(auto, using(crate::proofs::Fronts::be_4))]
+pub fn u32_bytes(word: u32) -> [u8; 4]
+    ensures { result ≡ bytes_of 4 word }
+{
+    word.to_be_bytes()
+}
+
+/// The eight bytes of a number.
+#[tactic(auto, using(crate::proofs::Fronts::be_8))]
+pub fn u64_bytes(long: u64) -> [u8; 8]
+    ensures { result ≡ bytes_of 8 long }
+{
+    long.to_be_bytes()
+}
+
+/// The eight bytes of a number in two's complement.
+#[tactic(auto, using(crate::proofs::Fronts::be_8))]
+pub fn i64_bytes(signed: i64) -> [u8; 8]
+    ensures { result ≡ bytes_of 8 (of_z w64 signed) }
+{
+    signed.to_be_bytes()
+}
+
+/// Puts the bytes into the buffer from the place `at` on, and returns the place after them.
+/// Where they have no room, nothing is put and `at` comes back.
+pub fn put(buffer: &mut [u8], at: usize, bytes: &[u8]) -> usize
+    ensures { PutsAt at bytes.now result buffer.old buffer.new }
+{
+    let len = buffer.len();
+    if at > len {
+        return at;
+    }
+    if bytes.len() > len - at {
+        return at;
+    }
+    let end = at + bytes.len();
+    buffer[at..end].copy_from_slice(bytes);
+    end
+}
 
 /// A value that takes a fixed number of bytes.
 pub trait Octets: Copy {

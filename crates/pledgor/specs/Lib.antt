@@ -1,6 +1,7 @@
 pub mod Lots
 pub mod Bookings
 pub mod Calls
+pub mod Changes
 pub mod Sound
 pub mod Opening
 pub mod Books

@@ -83,7 +83,8 @@ impl PledgorBook {
             return Err(Refusal::Lot);
         }
         let entry = self.state.lots[usize::from(new)];
-        let after = self.state.with_place(new, Place::Posted);
+        let mut after = self.state.with_place(new, Place::Posted);
+        after.lots[usize::from(old)].place = Place::Asked;
         Ok((
             Message::Substitute {
                 lot: new,
@@ -91,7 +92,7 @@ impl PledgorBook {
                 face: entry.lot.face,
                 old,
             },
-            after.with_place(old, Place::Asked),
+            after,
         ))
     }
 

@@ -1,6 +1,6 @@
 //! One line of a scenario.
 ghost use Rattle.std.specs.Prelude.{Some, codes};
-ghost use Rattle.scenario.specs.Lines.{SourceRead, source_word};
+ghost use Rattle.scenario.specs.Lines.{SourceRead, source_word, step_line};
 
 use amounts::{Lot, SecuredLot};
 use annex::schedule::standard_schedule;
@@ -82,6 +82,8 @@ pub enum Step {
 
 /// The line of a scenario that says it.
 impl fmt::Display for Step {
+    ghost output = { λ step. Some (step_line step) };
+
     fn fmt<W: fmt::Write>(&self, f: &mut fmt::Formatter<W>) -> fmt::Result {
         match self {
             Step::Notify { day } => write!(f, "notify {day}"),
@@ -132,11 +134,13 @@ impl TermsLine {
     }
 }
 
-/// A panel: its day and its quotes.
-#[derive(Drop)]
+/// A panel: its day, and which of the scenario's quotes are its own.
+// Two indices and no list of its own: a panel's line is `Copy`.
+#[derive(Clone, Copy, PartialEq, Eq, Debug)]
 pub struct PanelLine {
     pub day: u32,
-    pub quotes: Vec<i64>,
+    pub from: usize,
+    pub to: usize,
 }
 
 /// A day to be valued, and where its row is read from.
@@ -147,7 +151,7 @@ pub struct ValueLine {
 }
 
 /// What a line says.
-#[derive(Drop)]
+#[derive(Clone, Copy, PartialEq, Eq, Debug)]
 pub enum Directive {
     /// Nothing, or a comment: a line like the others, and matched with them.
     Blank,
@@ -156,7 +160,8 @@ pub enum Directive {
     Schedule([u32; 8]),
     Lot(SecuredLot),
     Row(Row),
-    Panel(PanelLine),
+    /// The quotes follow it in the line.
+    Panel { day: u32 },
     Value(ValueLine),
     /// The carrier that the days' frames go over, by its places.
     Carrier { places: usize },
@@ -248,23 +253,10 @@ fn row(words: &mut Words<'_>) -> Option<Row> {
     })
 }
 
-fn panel_day(words: &mut Words<'_>) -> Option<u32> {
+fn panel(words: &mut Words<'_>) -> Option<u32> {
     let day = words.number()?;
     words.keyword("quotes")?;
     Some(day)
-}
-
-// The quotes of a panel are the words that are left of its line.
-fn panel(heap: Global, words: &mut Words<'_>) -> Result<PanelLine, LineError> {
-    let day = panel_day(words).ok_or(LineError::Expected("'panel DAY quotes' and the quotes"))?;
-    let quotes: Vec<i64> = words
-        .map(|word| {
-            word.parse::<i64>().map_err(|_| LineError::Expected(
-                "'panel DAY quotes' and the quotes, each a whole number",
-            ))
-        })
-        .try_collect(heap)?;
-    Ok(PanelLine { day, quotes })
 }
 
 fn value(words: &mut Words<'_>) -> Option<ValueLine> {
@@ -314,12 +306,8 @@ const LOT_CALL: &str = "'reply LOT', 'deliver LOT' or 'ask LOT'";
 const ALONE: &str = "'confirm', 'answer', 'release' or 'show' alone";
 
 impl Directive {
-    /// What the line says, or what was expected in its place.
-    pub(crate) fn parse(heap: Global, line: &str) -> Result<Directive, LineError> {
-        if line.starts_with('#') {
-            return Ok(Directive::Blank);
-        }
-        let words = &mut Words::new(line);
+    /// What the line says, or what was expected in its place. The quotes of a panel are left in `words`.
+    pub(crate) fn parse(words: &mut Words<'_>) -> Result<Directive, LineError> {
         let Some(kind) = words.next() else {
             return Ok(Directive::Blank);
         };
@@ -340,7 +328,12 @@ impl Directive {
                 row(words).map(Directive::Row),
                 "'row DAY exposure NUMBER prices' and eight prices, '-' for none",
             ),
-            "panel" => return panel(heap, words).map(Directive::Panel),
+            "panel" => {
+                return match panel(words) {
+                    Some(day) => Ok(Directive::Panel { day }),
+                    None => Err(LineError::Expected("'panel DAY quotes' and the quotes")),
+                };
+            }
             "value" => (
                 value(words).map(Directive::Value),
                 "'value DAY sheet' or 'value DAY panel'",

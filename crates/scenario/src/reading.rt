@@ -2,12 +2,14 @@
 ghost use Rattle.std.specs.Prelude.{◌≡◌, option_map};
 ghost use Rattle.scenario.specs.Lines.{first_panel, quotes_of};
 
-use crate::directive::{Directive, LineError, PanelLine, Step, TermsLine, ValueLine};
+use crate::directive::{Directive, LineError, Step, TermsLine};
+pub use crate::directive::{PanelLine, ValueLine};
 use amounts::{Lot, SecuredLot};
 use annex::{Row, Terms};
 use scripted::Entry;
-use std::alloc::Global;
+use std::alloc::{AllocError, AllocFailed, Global};
 use thiserror::Error;
+use words::Words;
 
 /// The carrier that the days' frames go over: its places, and its script.
 #[derive(Drop)]
@@ -21,6 +23,8 @@ pub struct CarrierLines {
 pub struct Lines {
     pub lots: Vec<SecuredLot>,
     pub rows: Vec<Row>,
+    /// The quotes of all panels.
+    pub quotes: Vec<i64>,
     pub panels: Vec<PanelLine>,
     pub values: Vec<ValueLine>,
     /// The carrier, if there is one.
@@ -37,6 +41,7 @@ impl Lines {
         Lines {
             lots: Vec::new(heap),
             rows: Vec::new(heap),
+            quotes: Vec::new(heap),
             panels: Vec::new(heap),
             values: Vec::new(heap),
             carrier: None,
@@ -55,10 +60,14 @@ impl Lines {
 
     /// The quotes of the first panel of a day; a day without a panel has none.
     pub fn quotes_of(&self, day: u32) -> &[i64]
-        ensures { result.now ≡ quotes_of (first_panel day self.now.panels.items) }
+        ensures { result.now ≡ quotes_of self.now.quotes.items (first_panel day self.now.panels.items) }
     {
         match self.panel(day) {
-            Some(panel) => panel.quotes.as_slice(),
+            Some(panel) => self
+                .quotes
+                .as_slice()
+                .get(panel.from..panel.to)
+                .unwrap_or(&[]),
             None => &[],
         }
     }
@@ -88,6 +97,18 @@ pub enum Unreadable {
     /// There is not enough memory.
     #[error("not enough memory")]
     Memory,
+}
+
+impl From<AllocError> for Unreadable {
+    fn from(_: AllocError) -> Unreadable {
+        Unreadable::Memory
+    }
+}
+
+impl<T: Drop> From<AllocFailed<T>> for Unreadable {
+    fn from(_: AllocFailed<T>) -> Unreadable {
+        Unreadable::Memory
+    }
 }
 
 impl Unreadable {
@@ -139,8 +160,26 @@ impl Draft {
         Ok(())
     }
 
+    // The quotes of a panel are the words that are left of its line.
+    fn add_panel(&mut self, day: u32, words: &mut Words<'_>) -> Result<(), LineError> {
+        let from = self.lines.quotes.len();
+        for word in words {
+            let quote = word.parse::<i64>().map_err(|_| LineError::Expected(
+                "'panel DAY quotes' and the quotes, each a whole number",
+            ))?;
+            self.lines.quotes.push(quote)?;
+        }
+        let to = self.lines.quotes.len();
+        self.lines.panels.push(PanelLine { day, from, to })?;
+        Ok(())
+    }
+
     fn add(&mut self, heap: Global, line: &str) -> Result<(), LineError> {
-        match Directive::parse(heap, line)? {
+        if line.starts_with('#') {
+            return Ok(());
+        }
+        let words = &mut Words::new(line);
+        match Directive::parse(words)? {
             Directive::Blank => {}
             Directive::Terms(terms) => set_once(&mut self.terms, terms, "one 'terms' line")?,
             Directive::Schedule(percentages) => set_once(
@@ -150,7 +189,7 @@ impl Draft {
             )?,
             Directive::Lot(lot) => self.lines.lots.push(lot)?,
             Directive::Row(row) => self.lines.rows.push(row)?,
-            Directive::Panel(panel) => self.lines.panels.push(panel)?,
+            Directive::Panel { day } => self.add_panel(day, words)?,
             Directive::Value(value) => self.lines.values.push(value)?,
             Directive::Carrier { places } => {
                 let carrier = CarrierLines {

@@ -3,7 +3,7 @@ ghost use Rattle.std.specs.Prelude.{◌≡◌};
 ghost use Rattle.std.specs.List.{list_all};
 ghost use Rattle.scripted.specs.Script.{entry_fits, script_fits};
 
-use crate::fault::Fault;
+pub use crate::fault::Fault;
 
 /// The most entries of a script.
 const MOST_ENTRIES: usize = 64;

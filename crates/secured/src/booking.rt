@@ -1,8 +1,10 @@
 //! What a message of the pledgor does to the book.
-ghost use Rattle.std.specs.Prelude.{◌≡◌, ◌≤◌, true, if◌then◌else◌};
+ghost use Rattle.std.specs.Prelude.{◌≡◌, ◌≤◌, true, IfSome, if◌then◌else◌};
+ghost use Rattle.std.specs.Option.{option_map};
 ghost use Rattle.amounts.specs.Lots.{lot_fits};
 ghost use Rattle.message.specs.declared.Message.TheVariants.{Delivery, Substitute, Ask};
 ghost use Rattle.secured.specs.Bookings.{booked, books, fits};
+ghost use Rattle.secured.specs.Changes.{changed, InTable};
 ghost use Rattle.secured.specs.Lots.{worth as Worth};
 
 use crate::book::SecuredBook;
@@ -10,6 +12,67 @@ use crate::state::SecuredState;
 use amounts::{Lot, SecuredLot, value};
 use day::DayState;
 use message::Message;
+
+// What a message that fits changes. Not the state after it: the whole book would be copied for each message.
+#[derive(Clone, Copy)]
+enum Change {
+    // The state of the day in hand.
+    Answered(DayState),
+    // A lot that is held from now on, and the delivered sum.
+    Delivered {
+        lot: u8,
+        new: Lot,
+        delivered: u64,
+    },
+    // A lot that is held from now on, and the entry of its old one.
+    Substituted {
+        lot: u8,
+        new: Lot,
+        old: u8,
+        entry: SecuredLot,
+    },
+    // The entry of a lot, and the freed sum.
+    Asked {
+        lot: u8,
+        entry: SecuredLot,
+        freed: u64,
+    },
+}
+
+impl SecuredState {
+    // Makes a change in place.
+    fn make(&mut self, change: Change)
+        requires { InTable change }
+        ensures { self.new ≡ changed self.old change }
+    {
+        match change {
+            Change::Answered(state) => {
+                self.day.state = state;
+            }
+            Change::Delivered {
+                lot,
+                new,
+                delivered,
+            } => {
+                self.lots[usize::from(lot)] = SecuredLot::Held(new);
+                self.delivered = delivered;
+            }
+            Change::Substituted {
+                lot,
+                new,
+                old,
+                entry,
+            } => {
+                self.lots[usize::from(lot)] = SecuredLot::Held(new);
+                self.lots[usize::from(old)] = entry;
+            }
+            Change::Asked { lot, entry, freed } => {
+                self.lots[usize::from(lot)] = entry;
+                self.freed = freed;
+            }
+        }
+    }
+}
 
 impl SecuredBook {
     // The Value of a lot in range by the row last notified.
@@ -22,8 +85,11 @@ impl SecuredBook {
     }
 
     // A delivered lot is held, and its Value counts for the day where that is open and the lot's own.
-    fn booked_delivery(&self, day: u32, lot: u8, new: Lot) -> Option<SecuredState>
-        ensures { result ≡ booked self.now.state (Delivery day lot new.class new.face) }
+    // Not inlined, as the next two: else every message, misfits too, pays for joining what the three answer.
+    #[inline(never)]
+    fn booked_delivery(&self, day: u32, lot: u8, new: Lot) -> Option<Change>
+        ensures after { option_map (changed self.now.state) result ≡ booked self.now.state (Delivery day lot new.class new.face) }
+        ensures in_table { IfSome result InTable }
     {
         if day > self.state.day.number || !new.fits() {
             return None;
@@ -31,18 +97,23 @@ impl SecuredBook {
         let Some(SecuredLot::Absent) = self.state.lots.get(usize::from(lot)) else {
             return None;
         };
-        let mut after = self.state;
-        after.lots[usize::from(lot)] = SecuredLot::Held(new);
+        let mut delivered = self.state.delivered;
         if self.state.day.is_open() && day == self.state.day.number {
-            after.delivered += self.worth(&new);
+            delivered += self.worth(&new);
         }
-        Some(after)
+        Some(Change::Delivered {
+            lot,
+            new,
+            delivered,
+        })
     }
 
     // A substitute is held; its old lot is owed back if a day was notified and the new Value is at least the
     // old, else its decline is owed.
-    fn booked_substitute(&self, lot: u8, new: Lot, old: u8) -> Option<SecuredState>
-        ensures { result ≡ booked self.now.state (Substitute lot new.class new.face old) }
+    #[inline(never)]
+    fn booked_substitute(&self, lot: u8, new: Lot, old: u8) -> Option<Change>
+        ensures after { option_map (changed self.now.state) result ≡ booked self.now.state (Substitute lot new.class new.face old) }
+        ensures in_table { IfSome result InTable }
     {
         let Some(SecuredLot::Absent) = self.state.lots.get(usize::from(lot)) else {
             return None;
@@ -55,20 +126,25 @@ impl SecuredBook {
         }
         // The number is 0 where there is no day yet.
         let replaces = self.state.day.number > 0 && self.worth(&prior) <= self.worth(&new);
-        let mut after = self.state;
-        after.lots[usize::from(lot)] = SecuredLot::Held(new);
-        after.lots[usize::from(old)] = if replaces {
+        let entry = if replaces {
             SecuredLot::OwedBack(prior)
         } else {
             SecuredLot::DeclineOwed(prior)
         };
-        Some(after)
+        Some(Change::Substituted {
+            lot,
+            new,
+            old,
+            entry,
+        })
     }
 
     // An asked lot is owed back in the offer of its day if the Values so freed are within the amount, else
     // its decline is owed.
-    fn booked_ask(&self, day: u32, lot: u8) -> Option<SecuredState>
-        ensures { result ≡ booked self.now.state (Ask day lot) }
+    #[inline(never)]
+    fn booked_ask(&self, day: u32, lot: u8) -> Option<Change>
+        ensures after { option_map (changed self.now.state) result ≡ booked self.now.state (Ask day lot) }
+        ensures in_table { IfSome result InTable }
     {
         if day > self.state.day.number {
             return None;
@@ -77,37 +153,43 @@ impl SecuredBook {
             return None;
         };
         let worth = self.worth(&asked);
-        let mut after = self.state;
         if self.state.day.state == DayState::Offered
             && day == self.state.day.number
             && self.state.freed + worth <= self.state.day.amount
         {
-            after.freed += worth;
-            after.lots[usize::from(lot)] = SecuredLot::OwedBack(asked);
+            Some(Change::Asked {
+                lot,
+                entry: SecuredLot::OwedBack(asked),
+                freed: self.state.freed + worth,
+            })
         } else {
-            after.lots[usize::from(lot)] = SecuredLot::DeclineOwed(asked);
+            Some(Change::Asked {
+                lot,
+                entry: SecuredLot::DeclineOwed(asked),
+                freed: self.state.freed,
+            })
         }
-        Some(after)
     }
 
-    // The state after a message of the pledgor, if it fits: what it does depends on the day's state and the
-    // message together.
-    fn booked(&self, message: Message) -> Option<SecuredState>
-        ensures { result ≡ booked self.now.state message }
+    // What a message of the pledgor changes, if it fits: that depends on the day's state and the message
+    // together.
+    fn booked(&self, message: Message) -> Option<Change>
+        ensures after { option_map (changed self.now.state) result ≡ booked self.now.state message }
+        ensures in_table { IfSome result InTable }
     {
         let state = &self.state;
         // The pair is bound first: with guards on a pair that is built in the match, no proof was found.
         let both = (state.day.state, message);
         match both {
             (DayState::Called, Message::Agree { day }) if day == state.day.number => {
-                Some(state.with_state(DayState::Agreed))
+                Some(Change::Answered(DayState::Agreed))
             }
             (DayState::Called, Message::Dispute { day, amount })
                 if day == state.day.number && amount < state.day.amount => {
-                Some(state.with_state(DayState::Disputed))
+                Some(Change::Answered(DayState::Disputed))
             }
             (DayState::Offered, Message::Release { day }) if day == state.day.number => {
-                Some(state.with_state(DayState::Released))
+                Some(Change::Answered(DayState::Released))
             }
             (
                 _,
@@ -139,8 +221,8 @@ impl SecuredBook {
         ensures after { self.new.state ≡ (if fits self.old.state message then books self.old.state message else self.old.state) }
     {
         match self.booked(message) {
-            Some(state) => {
-                self.state = state;
+            Some(change) => {
+                self.state.make(change);
                 true
             }
             None => false,

@@ -30,10 +30,9 @@ impl SecuredState {
     pub(crate) fn with_state(&self, state: DayState) -> SecuredState
         ensures { result ≡ with_day self.now self.now.exposure (day_in self.now.day state) }
     {
-        SecuredState {
-            day: self.day.in_state(state),
-            ..*self
-        }
+        let mut after = *self;
+        after.day = self.day.in_state(state);
+        after
     }
 }
 

@@ -4,18 +4,62 @@
 //! both tell the answer and what the buffer, all EE before, then holds.
 #![tactic(auto)]
 
-use anyhow::{Context, anyhow};
 use frame::{Frame, Packet, read_frame, read_packet, write_acknowledgement, write_data};
 use message::Message;
 use refusal::Refusal;
+use std::alloc::{AllocError, Global};
 use std::io::{BufRead, BufReader};
-use words::{OrDash, Words};
+use words::OrDash;
 
 /// What stands in a buffer before anything is written into it.
 const UNTOUCHED: u8 = 0xEE;
 
+/// The numbers of a line, in the order of their columns.
+#[derive(Clone, Copy)]
+struct Columns {
+    room: usize,
+    acknowledgement: u64,
+    number: u64,
+    kind: u8,
+    day: u32,
+    exposure: i64,
+    amount: u64,
+    lot: u8,
+    class: u8,
+    face: u64,
+    old: u8,
+}
+
+fn digit(c: u8) -> u8 {
+    match c {
+        b'0'..=b'9' => c - b'0',
+        b'a'..=b'f' => c - b'a' + 10,
+        _ => 0,
+    }
+}
+
+// The bytes that hexadecimal digits write, two to a byte.
+// No `hex::decode`: what is no digit counts as 0, and a last digit alone is passed over.
+fn bytes_of(heap: Global, digits: &str) -> Result<Vec<u8>, AllocError> {
+    let mut bytes = Vec::new(heap);
+    let mut high: Option<u8> = None;
+    for c in digits.bytes() {
+        match high {
+            None => high = Some(digit(c)),
+            Some(h) => {
+                bytes.push(h.wrapping_mul(16).wrapping_add(digit(c)))?;
+                high = None;
+            }
+        }
+    }
+    Ok(bytes)
+}
+
+// A part at a time, since a buffer may be long and its digits take twice its memory.
 fn print_hex(rt: &HostRuntime, bytes: &[u8]) -> anyhow::Result<()> {
-    print!(rt; "{}", hex::encode(rt.alloc(), bytes)?)?;
+    for part in bytes.chunks(64) {
+        print!(rt; "{}", hex::encode(rt.alloc(), part)?)?;
+    }
     Ok(())
 }
 
@@ -80,17 +124,19 @@ fn print_written(
     print_hex(rt, buffer)
 }
 
-// A message by the number of its kind and every field that a message can have, as the outside program writes it.
-fn message(words: &mut Words<'_>) -> Option<Message> {
-    let kind = words.number::<u8>()?;
-    let day = words.number()?;
-    let exposure = words.number()?;
-    let amount = words.number()?;
-    let lot = words.number()?;
-    let class = words.number()?;
-    let face = words.number()?;
-    let old = words.number()?;
-    match kind {
+// The message of a kind's number, and of every field that a message can have, as the outside program writes it.
+fn message_of(c: &Columns) -> Option<Message> {
+    let Columns {
+        day,
+        exposure,
+        amount,
+        lot,
+        class,
+        face,
+        old,
+        ..
+    } = *c;
+    match c.kind {
         1 => Some(Message::Quiet { day, exposure }),
         2 => Some(Message::Call {
             day,
@@ -130,39 +176,63 @@ fn message(words: &mut Words<'_>) -> Option<Message> {
     }
 }
 
-fn read(rt: &HostRuntime, words: &mut Words<'_>) -> anyhow::Result<()> {
-    // A frame of no bytes has no digits.
-    let bytes = hex::decode(rt.alloc(), words.next().unwrap_or(""))?;
+// The next column; 0 stands for one that is not there.
+fn column<'a, I: Iterator<Item = &'a str>>(columns: &mut I) -> &'a str
+    requires { I.can_next columns.old }
+{
+    columns.next().unwrap_or("0")
+}
+
+// Columns stand one space apart, behind the command; those past the last are passed over.
+fn columns_of(line: &str) -> anyhow::Result<Columns> {
+    let mut columns = line.split(' ').skip(1);
+    Ok(Columns {
+        room: column(&mut columns).parse()?,
+        acknowledgement: column(&mut columns).parse()?,
+        number: column(&mut columns).parse()?,
+        kind: column(&mut columns).parse()?,
+        day: column(&mut columns).parse()?,
+        exposure: column(&mut columns).parse()?,
+        amount: column(&mut columns).parse()?,
+        lot: column(&mut columns).parse()?,
+        class: column(&mut columns).parse()?,
+        face: column(&mut columns).parse()?,
+        old: column(&mut columns).parse()?,
+    })
+}
+
+fn read(rt: &HostRuntime, digits: &str) -> anyhow::Result<()> {
+    let bytes = bytes_of(rt.alloc(), digits)?;
     print_frame(rt, bytes.as_slice())?;
     print!(rt; " | ")?;
     print_packet(rt, bytes.as_slice())
 }
 
-fn write(rt: &HostRuntime, words: &mut Words<'_>) -> anyhow::Result<()> {
-    let room = words.number().context("no length of a buffer")?;
-    let acknowledgement = words.number().context("no acknowledgement")?;
-    let number = words.number().context("no number of a message")?;
-    let message = message(words).context("no message")?;
-    let mut buffer = vec![in rt.alloc(); UNTOUCHED; room]?;
-    let written = write_data(buffer.as_mut_slice(), number, acknowledgement, &message);
-    print_written(rt, &written, buffer.as_slice())
+fn write(rt: &HostRuntime, c: &Columns, buffer: &mut [u8]) -> anyhow::Result<()> {
+    // A line whose kind is no message's is answered by nothing.
+    let Some(message) = message_of(c) else {
+        return Ok(());
+    };
+    let written = write_data(buffer, c.number, c.acknowledgement, &message);
+    print_written(rt, &written, buffer)
 }
 
-fn acknowledge(rt: &HostRuntime, words: &mut Words<'_>) -> anyhow::Result<()> {
-    let room = words.number().context("no length of a buffer")?;
-    let acknowledgement = words.number().context("no acknowledgement")?;
-    let mut buffer = vec![in rt.alloc(); UNTOUCHED; room]?;
-    let written = write_acknowledgement(buffer.as_mut_slice(), acknowledgement);
-    print_written(rt, &written, buffer.as_slice())
+fn acknowledge(rt: &HostRuntime, c: &Columns, buffer: &mut [u8]) -> anyhow::Result<()> {
+    let written = write_acknowledgement(buffer, c.acknowledgement);
+    print_written(rt, &written, buffer)
 }
 
 fn answer(rt: &HostRuntime, line: &str) -> anyhow::Result<()> {
-    let mut words = Words::new(line);
-    match words.next() {
-        Some("read") => read(rt, &mut words)?,
-        Some("write") => write(rt, &mut words)?,
-        Some("acknowledge") => acknowledge(rt, &mut words)?,
-        _ => return Err(anyhow!("unknown case")),
+    if let Some(digits) = line.strip_prefix("read ") {
+        read(rt, digits)?;
+    } else {
+        let c = columns_of(line)?;
+        let mut buffer = vec![in rt.alloc(); UNTOUCHED; c.room]?;
+        if line.starts_with("write ") {
+            write(rt, &c, buffer.as_mut_slice())?;
+        } else {
+            acknowledge(rt, &c, buffer.as_mut_slice())?;
+        }
     }
     println!(rt; "")?;
     Ok(())

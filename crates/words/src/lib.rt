@@ -132,6 +132,7 @@ impl<'a> Words<'a> {
     }
 
     /// The next words as prices, one to each class, and "-" for each that is absent.
+    #[tactic(auto, using(crate::proofs::Runs::all_there, crate::proofs::Runs::at_ends, crate::proofs::Runs::missing))]
     pub fn prices(&mut self) -> Option<[Option<u32>; 8]>
         ensures { Prices self.old result self.new }
     {
